@@ -1,0 +1,6 @@
+-- Laws that proofs of this crate and of those above it cite.
+pub mod Auto
+pub mod Cases
+pub mod Cut
+pub mod Mask
+pub mod Words

@@ -1,0 +1,21 @@
+-- `ump::channel_voice1::Midi1ControlChange::try_new` meets its contract.
+-- Assumes nothing.
+use borrow.Author.Needs.{needs}
+use Rattle.ump.proofs.channel_voice1.Midi1ControlChange.try_new.Statement.{statement}
+use Rattle.ump.proofs.channel_voice1.Midi1ControlChange.try_new.Tie as tie
+
+into-bits-requires : tie.Need-into-bits-requires
+into-bits-requires c κs = search needs
+
+into-bits-requires-2 : tie.Need-into-bits-requires-2
+into-bits-requires-2 c κs = search needs
+
+two-data-requires : tie.Need-two-data-requires
+two-data-requires c κs = search needs
+
+returns : tie.Need-returns
+returns c = cc
+
+pub try-new-spec : {M : Type 1} → statement M
+try-new-spec =
+    tie.close (tie.spec into-bits-requires into-bits-requires-2 two-data-requires returns)

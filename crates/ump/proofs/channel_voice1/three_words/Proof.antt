@@ -1,0 +1,51 @@
+-- `ump::channel_voice1::three_words` meets its contract.
+-- Assumes nothing.
+use borrow.Author.Needs.{needs}
+use Rattle.ump.proofs.channel_voice1.three_words.Statement.{statement}
+use Rattle.ump.proofs.channel_voice1.three_words.Tie as tie
+use Rattle.ump.proofs.Auto.{auto}
+
+enum-known-first : tie.Need-enum-known-first
+enum-known-first c = search needs
+
+enum-told : tie.Need-enum-told
+enum-told c = search needs
+
+returns : tie.Need-returns
+returns c = search needs
+
+enum-known-second : tie.Need-enum-known-second
+enum-known-second c = search needs
+
+enum-told-2 : tie.Need-enum-told-2
+enum-told-2 c = search needs
+
+returns-2 : tie.Need-returns-2
+returns-2 c = search needs
+
+enum-known-third : tie.Need-enum-known-third
+enum-known-third c = search needs
+
+enum-told-3 : tie.Need-enum-told-3
+enum-told-3 c = search needs
+
+returns-3 : tie.Need-returns-3
+returns-3 c = search needs
+
+returns-4 : tie.Need-returns-4
+returns-4 c = search (auto, c .before .third .given .1, c .before .before .before .before .second .given .1, c .before .before .before .before .before .before .before .first .given .1)
+
+pub three-words-spec : {M : Type 1} → statement M
+three-words-spec =
+    tie.close
+    (tie.spec
+    enum-known-first
+    enum-told
+    returns
+    enum-known-second
+    enum-told-2
+    returns-2
+    enum-known-third
+    enum-told-3
+    returns-3
+    returns-4)
