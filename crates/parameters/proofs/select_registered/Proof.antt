@@ -1,0 +1,17 @@
+-- `parameters::select_registered` meets its contract.
+-- Assumes nothing.
+use borrow.Author.Needs.{needs}
+use Rattle.parameters.proofs.select_registered.Statement.{statement}
+use Rattle.parameters.proofs.select_registered.Tie as tie
+
+as-given-requires : tie.Need-as-given-requires
+as-given-requires c κs = search needs
+
+number-messages-requires : tie.Need-number-messages-requires
+number-messages-requires c κs = search needs
+
+returns : tie.Need-returns
+returns c = cc
+
+pub select-registered-spec : {M : Type 1} → statement M
+select-registered-spec = tie.close (tie.spec as-given-requires number-messages-requires returns)

@@ -1,0 +1,56 @@
+-- `parameters::value_messages` meets its contract.
+-- Assumes nothing.
+use borrow.Author.Needs.{needs}
+use Rattle.parameters.proofs.value_messages.Statement.{statement}
+use Rattle.parameters.proofs.value_messages.Tie as tie
+use Rattle.ump.proofs.Auto.{auto}
+use mathlib.Core.Path.{_≡_}
+use mathlib.Core.Bool.{false}
+use lib.Dec.{ltb}
+use Rattle.parameters.specs.Writers.{valueMessages}
+
+returns : tie.Need-returns
+unfolding valueMessages
+returns c = search auto
+
+cast-msb : tie.Need-cast-msb
+cast-msb c = search needs
+
+cast-lsb : tie.Need-cast-lsb
+cast-lsb c = search needs
+
+select-messages-requires : tie.Need-select-messages-requires
+select-messages-requires c κs = search needs
+
+control-change-requires : tie.Need-control-change-requires
+control-change-requires c κs = search needs
+
+control-change-requires-2 : tie.Need-control-change-requires-2
+control-change-requires-2 c κs = search needs
+
+two-words-requires : tie.Need-two-words-requires
+two-words-requires c κs = search needs
+
+two-and-two-requires : tie.Need-two-and-two-requires
+two-and-two-requires c κs = search needs
+
+returns-2 : tie.Need-returns-2
+unfolding valueMessages
+returns-2 c =
+    let a = c .before .before .before .before .before .before .args in
+    let t : ltb 0x3FFF (a .value) ≡ false = search auto in
+    rw t (cc)
+
+pub value-messages-spec : {M : Type 1} → statement M
+value-messages-spec =
+    tie.close
+    (tie.spec
+    returns
+    cast-msb
+    cast-lsb
+    select-messages-requires
+    control-change-requires
+    control-change-requires-2
+    two-words-requires
+    two-and-two-requires
+    returns-2)

@@ -1,0 +1,4 @@
+-- Definitions that the contracts cite.
+pub mod Apply
+pub mod State
+pub mod Writers

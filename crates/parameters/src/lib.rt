@@ -1,0 +1,536 @@
+// The parameter receiver of one channel (parameters.rs).
+ghost use mathlib.Core.Path.{_≡_};
+ghost use Prim.Native.Nat.{ℕ, _<_, _^_, _-_};
+ghost use Rattle.ump.specs.Word.{messageMade, twoMade, fourMade};
+ghost use Rattle.ump.specs.Outcome.{followedBy};
+ghost use Rattle.parameters.specs.State.{newState, selects, selectedRpn, selectedNrpn, selectionOf, nulled, rpnSwitched, nrpnSwitched, entered, numberStored, controlled, heardOf, replyRead, receivedReply, receivedState};
+ghost use Rattle.parameters.specs.Writers.{numberMessages, selectRegistered, selectMessages, changeMessage, valueMessages};
+ghost use Rattle.parameters.specs.Apply.{saturatingStep, stepCents, stepUpper, stepNumbered, stepParameter, applied};
+use ump::channel_voice1::FourWords;
+use ump::channel_voice1::Message;
+use ump::channel_voice1::TwoWords;
+use ump::channel_voice1::control_change;
+use ump::channel_voice1::first_data;
+use ump::channel_voice1::is_message;
+use ump::channel_voice1::opcode;
+use ump::channel_voice1::second_data;
+use ump::channel_voice1::two_words;
+use ump::controller::Rpn;
+
+// Half of a number that was not received.
+const MISSING: u8 = 0x80;
+// Half of the null number 7F 7F, which selects no parameter.
+const NULL: u8 = 0x7F;
+
+// A parameter: a Registered or a Non-Registered Parameter Number.
+pub enum Parameter {
+    Registered(Rpn),
+    NonRegistered { msb: u8, lsb: u8 },
+}
+
+// One change of the selected parameter.
+pub enum ParameterChange {
+    // Data Entry MSB (controller 6), 7 bits.
+    DataEntryMsb(u8),
+    // Data Entry LSB (controller 38), 7 bits.
+    DataEntryLsb(u8),
+    // Data Increment (controller 96).
+    Increment,
+    // Data Decrement (controller 97).
+    Decrement,
+}
+
+// What a Data Entry, Data Increment or Data Decrement gives.
+pub struct ParameterEvent {
+    pub parameter: Parameter,
+    pub change: ParameterChange,
+}
+
+// One step up or down that stops at 0 and at `top`.
+fn saturating_step(value: u16, top: u16, up: bool) -> u16
+    ensures { λ r. ⌜ r ≡ saturatingStep top up value ⌝ }
+{
+    if up {
+        if value < top {
+            return value + 1;
+        }
+        return value;
+    }
+    if 0 < value {
+        return value - 1;
+    }
+    value
+}
+
+// A step of Pitch Bend Sensitivity, in cents with a carry at 100.
+fn step_cents(msb: u16, lsb: u16, up: bool) -> u16
+    requires { ⌜ (msb < 2 ^ 7) × (lsb < 2 ^ 7) ⌝ }
+    ensures { λ r. ⌜ r ≡ stepCents msb lsb up ⌝ }
+{
+    if up {
+        if lsb < 99 {
+            return msb * 128 + lsb + 1;
+        }
+        if msb < 127 {
+            return (msb + 1) * 128;
+        }
+        return msb * 128 + lsb;
+    }
+    if 0 < lsb {
+        return msb * 128 + lsb - 1;
+    }
+    if 0 < msb {
+        return (msb - 1) * 128 + 99;
+    }
+    msb * 128 + lsb
+}
+
+// A step of the upper half.
+fn step_upper(msb: u16, lsb: u16, up: bool) -> u16
+    requires { ⌜ (msb < 2 ^ 7) × (lsb < 2 ^ 7) ⌝ }
+    ensures { λ r. ⌜ r ≡ stepUpper msb lsb up ⌝ }
+{
+    saturating_step(msb, 127, up) * 128 + lsb
+}
+
+// One step of the 14-bit value.
+fn step14(value: u16, up: bool) -> u16
+    ensures { λ r. ⌜ r ≡ saturatingStep (2 ^ 14 - 1) up value ⌝ }
+{
+    saturating_step(value, 0x3FFF, up)
+}
+
+// One step of a registered parameter, by its number.
+fn step_numbered(msb: u8, lsb: u8, value: u16, up: bool) -> u16
+    requires { ⌜ value < 2 ^ 14 ⌝ }
+    ensures { λ r. ⌜ r ≡ stepNumbered msb lsb up value ⌝ }
+{
+    if msb != 0 {
+        return step14(value, up);
+    }
+    if lsb == 0 {
+        return step_cents(value / 128, value % 128, up);
+    }
+    if lsb < 2 {
+        return step14(value, up);
+    }
+    if 4 < lsb {
+        return step14(value, up);
+    }
+    step_upper(value / 128, value % 128, up)
+}
+
+// One RP-018 step of a 14-bit value.
+fn step(parameter: Parameter, value: u16, up: bool) -> u16
+    requires { ⌜ value < 2 ^ 14 ⌝ }
+    ensures { λ r. ⌜ r ≡ stepParameter parameter up value ⌝ }
+{
+    match parameter {
+        Parameter::Registered(rpn) => {
+            let n = rpn.into_parts();
+            step_numbered(n.msb, n.lsb, value, up)
+        }
+        Parameter::NonRegistered { msb: _, lsb: _ } => step14(value, up),
+    }
+}
+
+impl ParameterEvent {
+    // The new 14-bit value of the parameter from its current value.
+    pub fn apply(self, value: u16) -> u16
+        ensures { λ r. ⌜ r ≡ applied self value ⌝ }
+    {
+        let parameter = self.parameter;
+        let change = self.change;
+        let v = value % 0x4000;
+        match change {
+            ParameterChange::DataEntryMsb(msb) => (msb % 128) as u16 * 128,
+            ParameterChange::DataEntryLsb(lsb) => v / 128 * 128 + (lsb % 128) as u16,
+            ParameterChange::Increment => step(parameter, v, true),
+            ParameterChange::Decrement => step(parameter, v, false),
+        }
+    }
+}
+
+// A parameter number: each half 0 to 127, or MISSING.
+pub struct Number {
+    pub msb: u8,
+    pub lsb: u8,
+}
+
+// The parameter receiver of one channel: both numbers, the kind stored last, and the reception of each kind.
+pub struct ParameterState {
+    pub rpn: Number,
+    pub nrpn: Number,
+    pub nrpn_last: bool,
+    pub rpn_on: bool,
+    pub nrpn_on: bool,
+}
+
+// The parameter that a data entry acts on.
+pub enum Selection {
+    Nothing,
+    Selected(Parameter),
+}
+
+// At most one event.
+pub enum MaybeEvent {
+    NoEvent,
+    Event(ParameterEvent),
+}
+
+// What a message gave: the next state, and at most one event.
+pub struct Heard {
+    pub state: ParameterState,
+    pub event: MaybeEvent,
+}
+
+// What `receive` answers.
+pub enum Reply {
+    Heard(MaybeEvent),
+    OutOfRange,
+}
+
+pub struct Received {
+    pub state: ParameterState,
+    pub reply: Reply,
+}
+
+// Both halves were received, and the number is not null.
+fn is_selecting(msb: u8, lsb: u8) -> bool
+    ensures { λ r. ⌜ r ≡ selects msb lsb ⌝ }
+{
+    if NULL < msb {
+        return false;
+    }
+    if NULL < lsb {
+        return false;
+    }
+    if msb != NULL {
+        return true;
+    }
+    lsb != NULL
+}
+
+fn select_rpn(on: bool, msb: u8, lsb: u8) -> Selection
+    ensures { λ r. ⌜ r ≡ selectedRpn on msb lsb ⌝ }
+{
+    if on {
+        if is_selecting(msb, lsb) {
+            return Selection::Selected(Parameter::Registered(Rpn::from_parts(msb, lsb)));
+        }
+        return Selection::Nothing;
+    }
+    Selection::Nothing
+}
+
+fn select_nrpn(on: bool, msb: u8, lsb: u8) -> Selection
+    ensures { λ r. ⌜ r ≡ selectedNrpn on msb lsb ⌝ }
+{
+    if on {
+        if is_selecting(msb, lsb) {
+            return Selection::Selected(Parameter::NonRegistered { msb, lsb });
+        }
+        return Selection::Nothing;
+    }
+    Selection::Nothing
+}
+
+impl ParameterState {
+    // No number received, RPN reception on and NRPN reception off.
+    pub fn new() -> ParameterState
+        ensures { λ r. ⌜ r ≡ newState ⌝ }
+    {
+        let missing = Number {
+            msb: MISSING,
+            lsb: MISSING,
+        };
+        ParameterState {
+            rpn: missing,
+            nrpn: missing,
+            nrpn_last: false,
+            rpn_on: true,
+            nrpn_on: false,
+        }
+    }
+
+    // The parameter that a data entry acts on now.
+    pub fn selection(self) -> Selection
+        ensures { λ r. ⌜ r ≡ selectionOf self ⌝ }
+    {
+        if self.nrpn_last {
+            let n = self.nrpn;
+            return select_nrpn(self.nrpn_on, n.msb, n.lsb);
+        }
+        let n = self.rpn;
+        select_rpn(self.rpn_on, n.msb, n.lsb)
+    }
+
+    // Both numbers become null.
+    pub fn reset_all_controllers(self) -> ParameterState
+        ensures { λ r. ⌜ r ≡ nulled self ⌝ }
+    {
+        let null = Number {
+            msb: NULL,
+            lsb: NULL,
+        };
+        let mut s = self;
+        s.rpn = null;
+        s.nrpn = null;
+        s
+    }
+
+    // A data entry or a step: an event for the selected parameter.
+    fn entry(self, change: ParameterChange) -> Heard
+        ensures { λ r. ⌜ r ≡ entered self change ⌝ }
+    {
+        let s = self.selection();
+        let Selection::Selected(parameter) = s else {
+            return Heard {
+                state: self,
+                event: MaybeEvent::NoEvent,
+            };
+        };
+        Heard {
+            state: self,
+            event: MaybeEvent::Event(ParameterEvent { parameter, change }),
+        }
+    }
+
+    // Controllers 98 to 101 store half a number, and 121 makes both numbers null.
+    fn store(self, index: u8, value: u8) -> ParameterState
+        ensures { λ r. ⌜ r ≡ numberStored self index value ⌝ }
+    {
+        let rpn = self.rpn;
+        let nrpn = self.nrpn;
+        let mut s = self;
+        if index == 101 {
+            let n = Number {
+                msb: value,
+                lsb: rpn.lsb,
+            };
+            s.rpn = n;
+            s.nrpn_last = false;
+            return s;
+        }
+        if index == 100 {
+            let n = Number {
+                msb: rpn.msb,
+                lsb: value,
+            };
+            s.rpn = n;
+            s.nrpn_last = false;
+            return s;
+        }
+        if index == 99 {
+            let n = Number {
+                msb: value,
+                lsb: nrpn.lsb,
+            };
+            s.nrpn = n;
+            s.nrpn_last = true;
+            return s;
+        }
+        if index == 98 {
+            let n = Number {
+                msb: nrpn.msb,
+                lsb: value,
+            };
+            s.nrpn = n;
+            s.nrpn_last = true;
+            return s;
+        }
+        if index == 121 {
+            return self.reset_all_controllers();
+        }
+        self
+    }
+
+    // A control change.
+    fn control(self, index: u8, value: u8) -> Heard
+        ensures { λ r. ⌜ r ≡ controlled self index value ⌝ }
+    {
+        if index == 6 {
+            return self.entry(ParameterChange::DataEntryMsb(value));
+        }
+        if index == 38 {
+            return self.entry(ParameterChange::DataEntryLsb(value));
+        }
+        if index == 96 {
+            return self.entry(ParameterChange::Increment);
+        }
+        if index == 97 {
+            return self.entry(ParameterChange::Decrement);
+        }
+        let s = self.store(index, value);
+        Heard {
+            state: s,
+            event: MaybeEvent::NoEvent,
+        }
+    }
+
+    // A message whose fields are cut: only control changes are heard.
+    fn hear(self, opcode: u8, first: u8, second: u8) -> Heard
+        ensures { λ r. ⌜ r ≡ heardOf self opcode first second ⌝ }
+    {
+        if opcode == 0xB {
+            return self.control(first, second);
+        }
+        Heard {
+            state: self,
+            event: MaybeEvent::NoEvent,
+        }
+    }
+
+    // One message of this receiver's channel: the next state and at most one event. A word that is no message is out of range.
+    pub fn receive(self, word: u32) -> Received
+        ensures reply { λ r. ⌜ replyRead (r .reply) ≡ receivedReply self word ⌝ }
+        ensures state { λ r. ⌜ r .state ≡ receivedState self word ⌝ }
+    {
+        if is_message(word) {
+            let h = self.hear(opcode(word), first_data(word), second_data(word));
+            let s = h.state;
+            let e = h.event;
+            return Received {
+                state: s,
+                reply: Reply::Heard(e),
+            };
+        }
+        Received {
+            state: self,
+            reply: Reply::OutOfRange,
+        }
+    }
+
+    // RPN reception is on.
+    pub fn rpn_reception(self) -> bool
+        ensures { λ r. ⌜ r ≡ self .«rpn_on» ⌝ }
+    {
+        self.rpn_on
+    }
+
+    // NRPN reception is on.
+    pub fn nrpn_reception(self) -> bool
+        ensures { λ r. ⌜ r ≡ self .«nrpn_on» ⌝ }
+    {
+        self.nrpn_on
+    }
+
+    // Turns RPN reception on or off. Going on from off, it waits again for both halves of a number.
+    pub fn set_rpn_reception(self, on: bool) -> ParameterState
+        ensures { λ r. ⌜ r ≡ rpnSwitched self on ⌝ }
+    {
+        let mut s = self;
+        if on {
+            if self.rpn_on {
+                return self;
+            }
+            let n = Number {
+                msb: MISSING,
+                lsb: MISSING,
+            };
+            s.rpn = n;
+            s.rpn_on = true;
+            return s;
+        }
+        s.rpn_on = false;
+        s
+    }
+
+    // Turns NRPN reception on or off. Going on from off, it waits again for both halves of a number.
+    pub fn set_nrpn_reception(self, on: bool) -> ParameterState
+        ensures { λ r. ⌜ r ≡ nrpnSwitched self on ⌝ }
+    {
+        let mut s = self;
+        if on {
+            if self.nrpn_on {
+                return self;
+            }
+            let n = Number {
+                msb: MISSING,
+                lsb: MISSING,
+            };
+            s.nrpn = n;
+            s.nrpn_on = true;
+            return s;
+        }
+        s.nrpn_on = false;
+        s
+    }
+}
+
+// A number by two controllers.
+fn number_messages(
+    channel: u8,
+    msb_controller: u8,
+    lsb_controller: u8,
+    msb: u8,
+    lsb: u8,
+) -> TwoWords
+    ensures { λ r. ⌜ twoMade r ≡ numberMessages channel «msb_controller» «lsb_controller» msb lsb ⌝ }
+{
+    two_words(
+        control_change(channel, msb_controller, msb),
+        control_change(channel, lsb_controller, lsb),
+    )
+}
+
+// A registered parameter's number; halves of `Other` go as they are.
+fn select_registered(channel: u8, rpn: Rpn) -> TwoWords
+    ensures { λ r. ⌜ twoMade r ≡ selectRegistered channel rpn ⌝ }
+{
+    let n = rpn.as_given();
+    number_messages(channel, 101, 100, n.msb, n.lsb)
+}
+
+// The number of `parameter`: its MSB and then its LSB, with Group 0. A half above 127 is out of range.
+pub fn select_messages(channel: u8, parameter: Parameter) -> TwoWords
+    ensures { λ r. ⌜ twoMade r ≡ selectMessages channel parameter ⌝ }
+{
+    match parameter {
+        Parameter::Registered(rpn) => select_registered(channel, rpn),
+        Parameter::NonRegistered { msb, lsb } => number_messages(channel, 99, 98, msb, lsb),
+    }
+}
+
+// One change as a Control Change with Group 0; steps have value 0. Data above 127 is out of range.
+pub fn change_message(channel: u8, change: ParameterChange) -> Message
+    ensures { λ r. ⌜ messageMade r ≡ changeMessage channel change ⌝ }
+{
+    match change {
+        ParameterChange::DataEntryMsb(msb) => control_change(channel, 6, msb),
+        ParameterChange::DataEntryLsb(lsb) => control_change(channel, 38, lsb),
+        ParameterChange::Increment => control_change(channel, 96, 0),
+        ParameterChange::Decrement => control_change(channel, 97, 0),
+    }
+}
+
+// Two messages and then two more.
+fn two_and_two(first: TwoWords, second: TwoWords) -> FourWords
+    ensures { λ r. ⌜ fourMade r ≡ followedBy (twoMade first) (twoMade second) ⌝ }
+{
+    let TwoWords::Words(a, b) = first else {
+        return FourWords::OutOfRange;
+    };
+    let TwoWords::Words(c, d) = second else {
+        return FourWords::OutOfRange;
+    };
+    FourWords::Words(a, b, c, d)
+}
+
+// A parameter's value: its number, then Data Entry MSB and LSB, with Group 0. A value above 3FFF is out of range.
+pub fn value_messages(channel: u8, parameter: Parameter, value: u16) -> FourWords
+    ensures { λ r. ⌜ fourMade r ≡ valueMessages channel parameter value ⌝ }
+{
+    if 0x3FFF < value {
+        return FourWords::OutOfRange;
+    }
+    let msb = (value / 128) as u8;
+    let lsb = (value % 128) as u8;
+    two_and_two(
+        select_messages(channel, parameter),
+        two_words(
+            control_change(channel, 6, msb),
+            control_change(channel, 38, lsb),
+        ),
+    )
+}
