@@ -1,0 +1,5 @@
+-- Laws that proofs of this crate and of those above it cite.
+pub mod Legal
+pub mod Roles
+pub mod Mcm
+pub mod Named

@@ -1,0 +1,21 @@
+-- `mpe_layout::MpeLayout::role` meets its contract: legal or refused.
+-- Assumes nothing.
+use mathlib.Core.Path.{sym, _∙_}
+use borrow.Author.Needs.{needs}
+use Rattle.mpe_layout.proofs.MpeLayout.role.Statement.{statement}
+use Rattle.mpe_layout.proofs.MpeLayout.role.Tie as tie
+
+is-layout-requires : tie.Need-is-layout-requires
+is-layout-requires c κs = search needs
+
+role-in-requires : tie.Need-role-in-requires
+role-in-requires c κs = search needs
+
+returns : tie.Need-returns
+returns c = rw (sym (c .before .before .is-layout .ensures) ∙ c .before .if1 .taken) (cc)
+
+returns-2 : tie.Need-returns-2
+returns-2 c = rw (sym (c .before .is-layout .ensures) ∙ c .if1 .left)
+
+pub role-spec : {M : Type 1} → statement M
+role-spec = tie.close (tie.spec is-layout-requires role-in-requires returns returns-2)

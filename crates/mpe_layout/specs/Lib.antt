@@ -1,0 +1,3 @@
+-- Definitions that the contracts cite: layouts, roles, and the channels that a change of layout resets.
+pub mod Layout
+pub mod Reset

@@ -1,0 +1,456 @@
+// MPE zones, roles and layouts (mpe.rs), and the channels that a change of layout resets.
+ghost use mathlib.Core.Path.{_≡_};
+ghost use Prim.Native.Nat.{_<_};
+ghost use Rattle.ump.specs.Outcome.{given};
+ghost use Rattle.ump.specs.Packet.{packetValue};
+ghost use Rattle.ump.specs.Field.{maskTo};
+ghost use Rattle.mpe_layout.specs.Layout.{legalCounts, legal, ofLegal, layoutOf, membersOf, otherZone, managerOf, active, placeOf, roleAt, roleOf, lowestOf, lowestOrNone, leftBeside, layoutFor, withMcm, layoutMade, membersFound, roleFound, activityFound, lowestFound};
+ghost use Rattle.mpe_layout.specs.Reset.{sameZone, inZone, inAnyZone, sameRole, announcementRoles, announcementMask, layoutRoles, layoutMask, hitBy, named, maskFound};
+
+// One of the two zones (M1-100 2.2.1).
+pub enum MpeZone {
+    // Manager channel 0, members from 1 up.
+    Lower,
+    // Manager channel 15, members from 14 down.
+    Upper,
+}
+
+impl MpeZone {
+    // The manager channel.
+    pub fn manager(self) -> u8
+        ensures { λ r. ⌜ r ≡ managerOf self ⌝ }
+    {
+        match self {
+            MpeZone::Lower => 0,
+            MpeZone::Upper => 15,
+        }
+    }
+
+    fn other(self) -> MpeZone
+        ensures { λ r. ⌜ r ≡ otherZone self ⌝ }
+    {
+        match self {
+            MpeZone::Lower => MpeZone::Upper,
+            MpeZone::Upper => MpeZone::Lower,
+        }
+    }
+
+    fn same(self, zone: MpeZone) -> bool
+        ensures { λ r. ⌜ r ≡ sameZone self zone ⌝ }
+    {
+        match self {
+            MpeZone::Lower => match zone {
+                MpeZone::Lower => true,
+                MpeZone::Upper => false,
+            },
+            MpeZone::Upper => match zone {
+                MpeZone::Lower => false,
+                MpeZone::Upper => true,
+            },
+        }
+    }
+}
+
+// The role of a channel in a layout (M1-100 1.5.1).
+pub enum MpeRole {
+    // A conventional MIDI 1.0 channel.
+    NoZone,
+    Manager(MpeZone),
+    Member(MpeZone),
+}
+
+impl MpeRole {
+    fn same(self, role: MpeRole) -> bool
+        ensures { λ r. ⌜ r ≡ sameRole self role ⌝ }
+    {
+        match self {
+            MpeRole::NoZone => match role {
+                MpeRole::NoZone => true,
+                MpeRole::Manager(_) => false,
+                MpeRole::Member(_) => false,
+            },
+            MpeRole::Manager(y) => match role {
+                MpeRole::NoZone => false,
+                MpeRole::Manager(z) => y.same(z),
+                MpeRole::Member(_) => false,
+            },
+            MpeRole::Member(y) => match role {
+                MpeRole::NoZone => false,
+                MpeRole::Manager(_) => false,
+                MpeRole::Member(z) => y.same(z),
+            },
+        }
+    }
+
+    fn in_zone(self, zone: MpeZone) -> bool
+        ensures { λ r. ⌜ r ≡ inZone self zone ⌝ }
+    {
+        match self {
+            MpeRole::NoZone => false,
+            MpeRole::Manager(z) => z.same(zone),
+            MpeRole::Member(z) => z.same(zone),
+        }
+    }
+
+    fn in_any_zone(self) -> bool
+        ensures { λ r. ⌜ r ≡ inAnyZone self ⌝ }
+    {
+        match self {
+            MpeRole::NoZone => false,
+            MpeRole::Manager(_) => true,
+            MpeRole::Member(_) => true,
+        }
+    }
+}
+
+// Where a channel stands to one zone.
+enum ZonePlace {
+    Outside,
+    AsManager,
+    AsMember,
+}
+
+// The place at a distance from the manager of a zone with so many members.
+fn place(members: u8, distance: u8) -> ZonePlace
+    ensures { λ r. ⌜ r ≡ placeOf members distance ⌝ }
+{
+    if members == 0 {
+        return ZonePlace::Outside;
+    }
+    if distance == 0 {
+        return ZonePlace::AsManager;
+    }
+    if distance <= members {
+        return ZonePlace::AsMember;
+    }
+    ZonePlace::Outside
+}
+
+// The role by the places in the two zones.
+fn role_at(lower: ZonePlace, upper: ZonePlace) -> MpeRole
+    ensures { λ r. ⌜ r ≡ roleAt lower upper ⌝ }
+{
+    match lower {
+        ZonePlace::AsManager => MpeRole::Manager(MpeZone::Lower),
+        ZonePlace::AsMember => MpeRole::Member(MpeZone::Lower),
+        ZonePlace::Outside => match upper {
+            ZonePlace::AsManager => MpeRole::Manager(MpeZone::Upper),
+            ZonePlace::AsMember => MpeRole::Member(MpeZone::Upper),
+            ZonePlace::Outside => MpeRole::NoZone,
+        },
+    }
+}
+
+// A zone has at most 15 members, and two active zones at most 14 in all.
+fn is_legal(lower: u8, upper: u8) -> bool
+    ensures { λ r. ⌜ r ≡ legalCounts lower upper ⌝ }
+{
+    if 15 < lower {
+        return false;
+    }
+    if 15 < upper {
+        return false;
+    }
+    if lower == 0 {
+        return true;
+    }
+    if upper == 0 {
+        return true;
+    }
+    lower + upper <= 14
+}
+
+// At least one zone has members.
+fn has_members(lower: u8, upper: u8) -> bool
+    ensures { λ r. ⌜ r ≡ active lower upper ⌝ }
+{
+    if 0 < lower {
+        return true;
+    }
+    0 < upper
+}
+
+// What is left of a zone with `other` members when the other zone is given `members`.
+fn left_beside(members: u8, other: u8) -> u8
+    ensures { λ r. ⌜ r ≡ leftBeside members other ⌝ }
+{
+    if members == 0 {
+        return other;
+    }
+    if 14 <= members {
+        return 0;
+    }
+    if 14 - members < other {
+        return 14 - members;
+    }
+    other
+}
+
+// The layout with `members` in `zone` and `other` in the other zone.
+fn layout_for(zone: MpeZone, members: u8, other: u8) -> MpeLayout
+    ensures { λ r. ⌜ r ≡ layoutFor zone members other ⌝ }
+{
+    match zone {
+        MpeZone::Lower => MpeLayout {
+            lower: members,
+            upper: other,
+        },
+        MpeZone::Upper => MpeLayout {
+            lower: other,
+            upper: members,
+        },
+    }
+}
+
+// A layout: the member count of each zone.
+pub struct MpeLayout {
+    pub lower: u8,
+    pub upper: u8,
+}
+
+// What a call that makes a layout answers.
+pub enum MadeLayout {
+    Made(MpeLayout),
+    OutOfRange,
+}
+
+// What `members` answers.
+pub enum Members {
+    Count(u8),
+    OutOfRange,
+}
+
+// What `role` answers.
+pub enum FoundRole {
+    Role(MpeRole),
+    OutOfRange,
+}
+
+// What `is_active` answers.
+pub enum Activity {
+    Active(bool),
+    OutOfRange,
+}
+
+// What `lowest_member` answers.
+pub enum LowestMember {
+    Channel(u8),
+    OutOfRange,
+    NoMembers,
+}
+
+impl MpeLayout {
+    // No zone.
+    pub const NONE: Self = Self { lower: 0, upper: 0 };
+
+    // Lower with 15 members (M1-100 2.2.2).
+    pub const DEFAULT: Self = Self {
+        lower: 15,
+        upper: 0,
+    };
+
+    // A layout with these member counts.
+    pub fn new(lower: u8, upper: u8) -> MadeLayout
+        ensures { λ r. ⌜ layoutMade r ≡ ofLegal (layoutOf lower upper) (given (layoutOf lower upper)) ⌝ }
+    {
+        if is_legal(lower, upper) {
+            return MadeLayout::Made(MpeLayout { lower, upper });
+        }
+        MadeLayout::OutOfRange
+    }
+
+    fn is_layout(self) -> bool
+        ensures { λ r. ⌜ r ≡ legal self ⌝ }
+    {
+        is_legal(self.lower, self.upper)
+    }
+
+    fn count(self, zone: MpeZone) -> u8
+        ensures { λ r. ⌜ r ≡ membersOf self zone ⌝ }
+    {
+        match zone {
+            MpeZone::Lower => self.lower,
+            MpeZone::Upper => self.upper,
+        }
+    }
+
+    // The member count of a zone.
+    pub fn members(self, zone: MpeZone) -> Members
+        ensures { λ r. ⌜ membersFound r ≡ ofLegal self (given (membersOf self zone)) ⌝ }
+    {
+        if self.is_layout() {
+            return Members::Count(self.count(zone));
+        }
+        Members::OutOfRange
+    }
+
+    fn announced(self, zone: MpeZone, members: u8) -> MpeLayout
+        ensures { λ r. ⌜ r ≡ withMcm self zone members ⌝ }
+    {
+        if 15 < members {
+            return self;
+        }
+        layout_for(
+            zone,
+            members,
+            left_beside(members, self.count(zone.other())),
+        )
+    }
+
+    // The layout after an MPE Configuration Message.
+    pub fn with_mcm(self, zone: MpeZone, members: u8) -> MadeLayout
+        ensures { λ r. ⌜ layoutMade r ≡ ofLegal self (given (withMcm self zone members)) ⌝ }
+    {
+        if self.is_layout() {
+            return MadeLayout::Made(self.announced(zone, members));
+        }
+        MadeLayout::OutOfRange
+    }
+
+    fn role_in(self, channel: u8) -> MpeRole
+        requires { ⌜ channel < 16 ⌝ }
+        ensures { λ r. ⌜ r ≡ roleOf self channel ⌝ }
+    {
+        role_at(place(self.lower, channel), place(self.upper, 15 - channel))
+    }
+
+    // The role of a channel.
+    pub fn role(self, channel: u8) -> FoundRole
+        ensures { λ r. ⌜ roleFound r ≡ ofLegal self (given (roleOf self (packetValue channel))) ⌝ }
+    {
+        if self.is_layout() {
+            return FoundRole::Role(self.role_in(channel % 16));
+        }
+        FoundRole::OutOfRange
+    }
+
+    // At least one zone is active.
+    pub fn is_active(self) -> Activity
+        ensures { λ r. ⌜ activityFound r ≡ ofLegal self (given (active (self .lower) (self .upper))) ⌝ }
+    {
+        if self.is_layout() {
+            return Activity::Active(has_members(self.lower, self.upper));
+        }
+        Activity::OutOfRange
+    }
+
+    // The lowest member of a zone, or none in a zone without members.
+    pub fn lowest_member(self, zone: MpeZone) -> LowestMember
+        ensures { λ r. ⌜ lowestFound r ≡ ofLegal self (lowestOrNone zone (membersOf self zone)) ⌝ }
+    {
+        if self.is_layout() {
+            return lowest(zone, self.count(zone));
+        }
+        LowestMember::OutOfRange
+    }
+}
+
+// The lowest member of a zone with so many members.
+fn lowest(zone: MpeZone, members: u8) -> LowestMember
+    requires { ⌜ members < 16 ⌝ }
+    ensures { λ r. ⌜ lowestFound r ≡ lowestOrNone zone members ⌝ }
+{
+    if members == 0 {
+        return LowestMember::NoMembers;
+    }
+    match zone {
+        MpeZone::Lower => LowestMember::Channel(1),
+        MpeZone::Upper => LowestMember::Channel(15 - members),
+    }
+}
+
+// What the reset masks answer.
+pub enum ResetMask {
+    Mask(u16),
+    OutOfRange,
+}
+
+// How a layout changes: a zone is announced, or the whole layout is set.
+enum Change {
+    Announced(MpeZone),
+    Set,
+}
+
+// The role changes, or is in the zone before or after.
+fn announcement_roles(before: MpeRole, after: MpeRole, zone: MpeZone) -> bool
+    ensures { λ r. ⌜ r ≡ announcementRoles before after zone ⌝ }
+{
+    if !before.same(after) {
+        return true;
+    }
+    if before.in_zone(zone) {
+        return true;
+    }
+    after.in_zone(zone)
+}
+
+// There is a role before or after.
+fn layout_roles(before: MpeRole, after: MpeRole) -> bool
+    ensures { λ r. ⌜ r ≡ layoutRoles before after ⌝ }
+{
+    if before.in_any_zone() {
+        return true;
+    }
+    after.in_any_zone()
+}
+
+// The change resets the channel.
+fn resets(change: Change, before: MpeLayout, after: MpeLayout, channel: u8) -> bool
+    requires { ⌜ channel < 16 ⌝ }
+    ensures { λ r. ⌜ r ≡ hitBy change before after channel ⌝ }
+{
+    let old = before.role_in(channel);
+    let new = after.role_in(channel);
+    match change {
+        Change::Announced(zone) => announcement_roles(old, new, zone),
+        Change::Set => layout_roles(old, new),
+    }
+}
+
+// Bit n is set where the change resets channel n.
+fn mask_of(change: Change, before: MpeLayout, after: MpeLayout) -> u16
+    ensures { λ r. ⌜ r ≡ maskTo (hitBy change before after) 16 ⌝ }
+{
+    let mut mask: u16 = 0;
+    let mut i: u8 = 0;
+    while i < 16 {
+        if resets(change, before, after, i) {
+            mask = mask | (1u16 << i);
+        }
+        i += 1;
+    }
+    mask
+}
+
+fn reset(change: Change, before: MpeLayout, after: MpeLayout) -> ResetMask
+    ensures { λ r. ⌜ maskFound r ≡ ofLegal before (ofLegal after (given (maskTo (hitBy change before after) 16))) ⌝ }
+{
+    if before.is_layout() {
+        if after.is_layout() {
+            return ResetMask::Mask(mask_of(change, before, after));
+        }
+        return ResetMask::OutOfRange;
+    }
+    ResetMask::OutOfRange
+}
+
+// A zone announcement resets every channel whose role changes or that is in the named zone before or after.
+pub fn announcement_reset(before: MpeLayout, after: MpeLayout, zone: MpeZone) -> ResetMask
+    ensures { λ r. ⌜ maskFound r ≡ ofLegal before (ofLegal after (given (announcementMask before after zone))) ⌝ }
+{
+    reset(Change::Announced(zone), before, after)
+}
+
+// A layout that is set resets every channel with a role before or after.
+pub fn layout_reset(before: MpeLayout, after: MpeLayout) -> ResetMask
+    ensures { λ r. ⌜ maskFound r ≡ ofLegal before (ofLegal after (given (layoutMask before after))) ⌝ }
+{
+    reset(Change::Set, before, after)
+}
+
+// The mask names the channel.
+pub fn names(mask: u16, channel: u8) -> bool
+    ensures { λ r. ⌜ r ≡ named mask channel ⌝ }
+{
+    ((mask >> (channel % 16)) & 1) == 1
+}

@@ -1,0 +1,3 @@
+-- Definitions that the contracts cite, and what is proved of them.
+pub mod Pitch
+pub mod Claims
