@@ -1,0 +1,83 @@
+-- The bench examples that document 01, "Bench examples", marks with a star, as one table: layouts, pitch and RPN 0.
+use Prim.Native.Nat.{ℕ, _+_, _*_}
+use mathlib.Core.List.{List, [], _∷_, map}
+use mathlib.Core.Path.{_≡_}
+use lib.IntN.{ℤ, pos, negℤ}
+use Rattle.ump.specs.Outcome.{Outcome, given, outOfRange}
+use Rattle.ump.specs.Packet.{packetValue}
+use Rattle.ump.specs.declared.controller.Rpn.the-variants.{PitchBendSensitivity}
+use Rattle.parameters.specs.declared.Parameter.the-variants.{Registered}
+use Rattle.parameters.specs.declared.ParameterChange.{ParameterChange}
+use Rattle.parameters.specs.declared.ParameterChange.the-variants.{Increment, Decrement}
+use Rattle.parameters.specs.Apply.{applied}
+use Rattle.mpe_layout.specs.declared.MpeZone.{MpeZone}
+use Rattle.mpe_layout.specs.declared.MpeZone.the-variants.{Lower, Upper}
+use Rattle.mpe_layout.specs.declared.MpeRole.{MpeRole}
+use Rattle.mpe_layout.specs.declared.MpeRole.the-variants.{Member}
+use Rattle.mpe_layout.specs.declared.MpeLayout.{MpeLayout}
+use Rattle.mpe_layout.specs.Layout.{layoutOf, ofLegal, roleOf, withMcm}
+use Rattle.mpe_pitch.specs.declared.MpeSensitivity.{MpeSensitivity}
+use Rattle.mpe_pitch.specs.Pitch.{managerDefault, memberDefault, pitchOffset, pitchBendValue}
+
+-- a call, with its arguments
+pub data Call : Type 0 where
+  new : ℕ → ℕ → Call
+  with-mcm : MpeLayout → MpeZone → ℕ → Call
+  role : MpeLayout → ℕ → Call
+  pitch-bend-value : ℤ → MpeSensitivity → Call
+  pitch-offset : ℕ → MpeSensitivity → Call
+  -- of RPN 0, a change of semitones and cents
+  apply : ParameterChange → ℕ → ℕ → Call
+
+-- what a call answers
+pub data Reply : Type 0 where
+  asLayout : Outcome MpeLayout → Reply
+  asRole : Outcome MpeRole → Reply
+  asValue : ℕ → Reply
+  asOffset : ℤ → Reply
+
+-- semitones and cents as one value of 14 bits
+abbrev inAll : ℕ → ℕ → ℕ
+inAll semitones cents = semitones * 128 + cents
+
+-- what the contract of the call says
+unfoldable pub replyTo : Call → Reply
+replyTo (new lower upper) = asLayout (ofLegal (layoutOf lower upper) (given (layoutOf lower upper)))
+replyTo (with-mcm l zone members) = asLayout (ofLegal l (given (withMcm l zone members)))
+replyTo (role l channel) = asRole (ofLegal l (given (roleOf l (packetValue channel))))
+replyTo (pitch-bend-value offset s) = asValue (pitchBendValue offset s)
+replyTo (pitch-offset value s) = asOffset (pitchOffset value s)
+replyTo (apply change semitones cents) =
+    asValue (applied (record { parameter = Registered PitchBendSensitivity; change = change }) (inAll semitones cents))
+
+pub record Example : Type 0 where
+  pub call : Call
+  pub reply : Reply
+
+abbrev example : Call → Reply → Example
+example c r = record { call = c; reply = r }
+
+-- 2/0 and 48/0 are the defaults of a manager and of members
+unfoldable pub table : List Example
+table =
+    example (new 13 1) (asLayout (given (layoutOf 13 1)))
+    ∷ example (new 15 0) (asLayout (given (layoutOf 15 0)))
+    ∷ example (new 8 7) (asLayout outOfRange)
+    ∷ example (with-mcm (layoutOf 7 7) Lower 10) (asLayout (given (layoutOf 10 4)))
+    ∷ example (with-mcm (layoutOf 7 7) Lower 14) (asLayout (given (layoutOf 14 0)))
+    ∷ example (with-mcm (layoutOf 7 7) Upper 0) (asLayout (given (layoutOf 7 0)))
+    ∷ example (with-mcm (layoutOf 7 7) Lower 16) (asLayout (given (layoutOf 7 7)))
+    ∷ example (role (layoutOf 15 0) 15) (asRole (given (Member Lower)))
+    ∷ example (pitch-bend-value (pos 10000) managerDefault) (asValue 12288)
+    ∷ example (pitch-bend-value (pos 19999) managerDefault) (asValue 16383)
+    ∷ example (pitch-bend-value (negℤ (pos 19999)) managerDefault) (asValue 0)
+    ∷ example (pitch-offset 0 memberDefault) (asOffset (negℤ (pos 480059)))
+    ∷ example (pitch-offset 16383 memberDefault) (asOffset (pos 480000))
+    ∷ example (pitch-offset 12288 memberDefault) (asOffset (pos 240029))
+    ∷ example (apply Increment 2 110) (asValue (inAll 3 0))
+    ∷ example (apply Decrement 3 0) (asValue (inAll 2 99))
+    ∷ []
+
+-- each call of the table gives the reply beside it
+abbrev pub TableHolds : Type 0
+TableHolds = map (λ e. replyTo (e .call)) table ≡ map (λ e. e .reply) table

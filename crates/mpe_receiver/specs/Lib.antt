@@ -1,0 +1,8 @@
+-- Definitions that the contracts cite.
+pub mod State
+pub mod Zones
+pub mod Receive
+pub mod Read
+pub mod WellFormed
+pub mod Claims
+pub mod Bench

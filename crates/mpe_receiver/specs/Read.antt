@@ -1,0 +1,56 @@
+-- What the receiver shows (M1-100 2.2.4 to 2.2.8, Appendix C.5).
+use Prim.Native.Nat.{ℕ, _%_}
+use mathlib.Core.Bool.{Bool, true, false}
+use mathlib.Core.List.{List}
+use lib.ListN.{getD}
+use lib.IntN.{ℤ, _+ℤ_}
+use Rattle.ump.specs.Choice.{if_then_else_}
+use Rattle.ump.specs.Outcome.{Outcome, given, noneThere}
+use Rattle.ump.specs.Packet.{packetValue}
+use Rattle.mpe_layout.specs.declared.MpeZone.{MpeZone}
+use Rattle.mpe_layout.specs.declared.MpeRole.{MpeRole}
+use Rattle.mpe_layout.specs.declared.MpeRole.the-variants as role
+use Rattle.mpe_layout.specs.Layout.{managerOf}
+use Rattle.mpe_pitch.specs.declared.MpeSensitivity.{MpeSensitivity}
+use Rattle.mpe_pitch.specs.Pitch.{pitchOffset}
+use Rattle.mpe_receiver.specs.declared.MpeReceiver.{MpeReceiver}
+use Rattle.mpe_receiver.specs.declared.Offset.{Offset}
+use Rattle.mpe_receiver.specs.declared.Offset.the-variants as offset
+use Rattle.mpe_receiver.specs.State.{monoOf}
+use Rattle.mpe_receiver.specs.Zones.{slotOf, sensitivityAt, roleHeld}
+
+-- mode 4 is mono, mode 3 poly
+abbrev pub modeOf : MpeReceiver → MpeZone → ℕ
+modeOf r zone = if monoOf r zone then 4 else 3
+
+abbrev pub sensitivityOf : MpeReceiver → MpeZone → Bool → MpeSensitivity
+sensitivityOf r zone manager = sensitivityAt (r .sensitivity) (slotOf zone manager)
+
+-- the channel is taken modulo 16
+abbrev pub bendAt : MpeReceiver → ℕ → ℕ
+bendAt r channel = getD (r .«pitch_bend») (packetValue channel) 0
+
+abbrev pub pressureAt : MpeReceiver → ℕ → ℕ
+pressureAt r channel = getD (r .pressure) (packetValue channel) 0
+
+abbrev pub brightnessAt : MpeReceiver → ℕ → ℕ
+brightnessAt r channel = getD (r .brightness) (packetValue channel) 0
+
+-- a manager's offset is its own; a member's is added to its manager's
+unfoldable pub managerOffset : MpeReceiver → MpeZone → ℤ
+managerOffset r zone = pitchOffset (bendAt r (managerOf zone)) (sensitivityOf r zone true)
+
+unfoldable pub memberOffset : MpeReceiver → MpeZone → ℕ → ℤ
+memberOffset r zone channel = managerOffset r zone +ℤ pitchOffset (bendAt r channel) (sensitivityOf r zone false)
+
+abbrev pub offsetByRole : MpeReceiver → ℕ → MpeRole → Outcome ℤ
+offsetByRole r channel role.NoZone = noneThere
+offsetByRole r channel (role.Manager zone) = given (managerOffset r zone)
+offsetByRole r channel (role.Member zone) = given (memberOffset r zone channel)
+
+abbrev pub offsetOf : MpeReceiver → ℕ → Outcome ℤ
+offsetOf r channel = offsetByRole r channel (roleHeld (r .layout) channel)
+
+abbrev pub offsetRead : Offset → Outcome ℤ
+offsetRead (offset.Offset z) = given z
+offsetRead offset.NoRole = noneThere
