@@ -1,0 +1,6 @@
+-- Laws that the proofs cite, and the proofs of the claims of specs/.
+pub mod Order
+pub mod Search
+pub mod Read
+pub mod Noted
+pub mod Counts

@@ -1,0 +1,111 @@
+-- What the answers about a zone tell, and what a note gets by them, which `notedOn` computes.
+-- Assumes nothing.
+use mathlib.Core.Path.{_≡_, refl}
+use mathlib.Core.Bool.{Bool, true, false}
+use Prim.Native.Nat.{ℕ, suc, _+_, _-_, _<_, _≤_}
+use native.Mathlib.Omega.{arith}
+use borrow.Author.Tests.{eq-eqb, ne-eqb, eqb-true, eqb-false}
+use lib.Dec.{eqb}
+use Rattle.ump.specs.Choice.{if_then_else_}
+use Rattle.ump.specs.Outcome.{given, outOfRange, noneThere}
+use Rattle.mpe_layout.specs.Layout.{legal, ofLegal, membersOf, lowestOf, lowestOrNone}
+use Rattle.mpe_layout.specs.declared.MpeZone.{MpeZone}
+use Rattle.mpe_layout.specs.declared.MpeZone.the-variants.{Lower, Upper}
+use Rattle.mpe_layout.specs.declared.MpeLayout.{MpeLayout}
+use Rattle.mpe_layout.proofs.Legal.{members-le}
+use Rattle.mpe_allocator.specs.declared.MpeNoteAllocator.{MpeNoteAllocator}
+use Rattle.mpe_allocator.specs.declared.NotedOn.{NotedOn}
+use Rattle.mpe_allocator.specs.declared.NoteOn.the-variants.{OutOfRange, NoMembers}
+use Rattle.mpe_allocator.specs.Choice.{markOf, Foremost, choice}
+use Rattle.mpe_allocator.specs.Allocator.{noteOnFound, answered, placedOn, Placed, NotedAs, illegal, empty, placed, notedOn}
+use Rattle.mpe_allocator.proofs.Search.{only-one, choice-foremost}
+
+-- ---- what `lowest_member` and `members` answered
+
+differ : {A : Type 0} → _≡_ {A = ℕ} 0 1 → A
+differ e = absurd (omega arith)
+
+out-by : (t e : Bool) (n : ℕ) → outOfRange ≡ (if t then (if e then noneThere else given n) else outOfRange) → t ≡ false
+out-by true true n h =
+    let z : _≡_ {A = ℕ} 1 3 = cc in
+    absurd (omega arith)
+out-by true false n h = differ (cc)
+out-by false e n h = refl
+
+none-by : (t e : Bool) (n : ℕ) → noneThere ≡ (if t then (if e then noneThere else given n) else outOfRange) → (t ≡ true) × (e ≡ true)
+none-by true true n h = (refl, refl)
+none-by true false n h = differ (cc)
+none-by false e n h =
+    let z : _≡_ {A = ℕ} 3 1 = cc in
+    absurd (omega arith)
+
+given-by : (t e : Bool) (n m : ℕ) → given m ≡ (if t then (if e then noneThere else given n) else outOfRange) → (t ≡ true) × (e ≡ false) × (m ≡ n)
+given-by true true n m h = differ (cc)
+given-by true false n m h = (refl, refl, cc)
+given-by false e n m h = differ (cc)
+
+count-by : (t : Bool) (n m : ℕ) → given m ≡ (if t then given n else outOfRange) → m ≡ n
+count-by true n m h = cc
+count-by false n m h = differ (cc)
+
+uncounted-by : (t : Bool) (n : ℕ) → outOfRange ≡ (if t then given n else outOfRange) → t ≡ false
+uncounted-by true n h = differ (cc)
+uncounted-by false n h = refl
+
+module _ (l : MpeLayout) (zone : MpeZone) where
+  pub told-out : outOfRange ≡ ofLegal l (lowestOrNone zone (membersOf l zone)) → legal l ≡ false
+  told-out h = out-by (legal l) (eqb (membersOf l zone) 0) (lowestOf l zone) h
+
+  pub told-none : noneThere ≡ ofLegal l (lowestOrNone zone (membersOf l zone)) → (legal l ≡ true) × (membersOf l zone ≡ 0)
+  told-none h =
+      let b = none-by (legal l) (eqb (membersOf l zone) 0) (lowestOf l zone) h in
+      (b .0, eqb-true (membersOf l zone) 0 (b .1))
+
+  pub told-lowest : (first : ℕ) → given first ≡ ofLegal l (lowestOrNone zone (membersOf l zone)) → (legal l ≡ true) × (0 < membersOf l zone) × (first ≡ lowestOf l zone)
+  told-lowest first h =
+      let b = given-by (legal l) (eqb (membersOf l zone) 0) (lowestOf l zone) first h in
+      let n : membersOf l zone ≡ 0 → ⊥ = eqb-false (membersOf l zone) 0 (b .1) in
+      (b .0, omega arith, b .2)
+
+  pub told-count : (n : ℕ) → given n ≡ ofLegal l (given (membersOf l zone)) → n ≡ membersOf l zone
+  told-count n h = count-by (legal l) (membersOf l zone) n h
+
+  pub told-uncounted : outOfRange ≡ ofLegal l (given (membersOf l zone)) → legal l ≡ false
+  told-uncounted h = uncounted-by (legal l) (membersOf l zone) h
+
+-- the members are channels
+pub members-end : (l : MpeLayout) (zone : MpeZone) → legal l ≡ true → lowestOf l zone + membersOf l zone ≤ 16
+members-end l Lower h = omega (arith, members-le l Lower h)
+members-end l Upper h = omega (arith, members-le l Upper h)
+
+-- the same channels under other names
+moved : (a : MpeNoteAllocator) (mark first n x y c : ℕ) → first ≡ x → n ≡ y → Foremost a mark first (first + n) c → Foremost a mark x (x + y) c
+moved a mark first n x y c p q f = rw (← p, ← q) f
+
+-- ---- what the note gets
+
+module _ (a : MpeNoteAllocator) (l : MpeLayout) (zone : MpeZone) (note : ℕ) where
+  -- both ways to say it
+  abbrev pub Both : NotedOn → Type 0
+  Both r = NotedAs a l zone note (noteOnFound (r .reply)) (r .allocator) × (r ≡ notedOn a l zone note)
+
+  pub in-illegal : legal l ≡ false → Both (answered a OutOfRange)
+  unfolding notedOn
+  in-illegal h = (illegal h, rw h)
+
+  pub in-empty : legal l ≡ true → membersOf l zone ≡ 0 → Both (answered a NoMembers)
+  unfolding notedOn
+  in-empty h e = (empty h e, rw (h, eq-eqb (membersOf l zone) 0 e))
+
+  pub in-zone : legal l ≡ true → 0 < membersOf l zone → (c : ℕ) → Foremost a (markOf note) (lowestOf l zone) (lowestOf l zone + membersOf l zone) c → Both (placedOn a (markOf note) c)
+  unfolding notedOn
+  in-zone h n c f =
+      let e : lowestOf l zone + suc (membersOf l zone - 1) ≡ lowestOf l zone + membersOf l zone = omega arith in
+      let g = rw e at (choice-foremost a (markOf note) (lowestOf l zone) (membersOf l zone - 1)) in
+      let d : c ≡ choice a (markOf note) (lowestOf l zone) (membersOf l zone - 1) = only-one a (markOf note) (lowestOf l zone) (lowestOf l zone + membersOf l zone) c _ f g in
+      (placed h f, rw (h, ne-eqb (membersOf l zone) 0 (λ e. omega arith), ← d))
+
+  pub in-channels : (first n : ℕ) (r : NotedOn) → legal l ≡ true → 0 < membersOf l zone → first ≡ lowestOf l zone → n ≡ membersOf l zone → Placed a (markOf note) first (first + n) r → Both r
+  in-channels first n r h m p q d =
+      rw (d .is)
+      (in-zone h m (d .channel) (moved a (markOf note) first n (lowestOf l zone) (membersOf l zone) (d .channel) p q (d .foremost)))

@@ -1,0 +1,5 @@
+-- Definitions that the contracts cite, and what is proved of lists of calls.
+pub mod Choice
+pub mod Claims
+pub mod Allocator
+pub mod Calls

@@ -1,0 +1,282 @@
+// The note allocator of an MPE sender (mpe.rs): the member channel for each new note.
+ghost use mathlib.Core.Path.{_≡_};
+ghost use mathlib.Core.Bool.{true, false};
+ghost use Prim.Native.Nat.{_+_, _<_, _≤_};
+ghost use Rattle.ump.specs.Packet.{packetValue};
+ghost use Rattle.mpe_allocator.specs.Choice.{heldOn, tieFirst, smallerFirst, recalls, recallsOn, latestFirst, idlestFirst, byRecall, goesFirst, foremostOf, Foremost};
+ghost use Rattle.mpe_allocator.specs.Allocator.{emptied, noteOnFound, oneMore, withNote, Placed, NotedAs, notedOn, tick, withoutNote, withOption};
+use mpe_layout::LowestMember;
+use mpe_layout::Members;
+use mpe_layout::MpeLayout;
+use mpe_layout::MpeZone;
+
+// For each channel the count of held notes, the last note (0x80 added, 0 for none) and the clock at the last release (M1-100 A.3).
+pub struct MpeNoteAllocator {
+    pub active: [u8; 16],
+    pub last_note: [u8; 16],
+    pub last_off: [u32; 16],
+    // The count of releases.
+    pub clock: u32,
+    pub same_note: bool,
+}
+
+// What a new note gets.
+pub enum NoteOn {
+    Channel(u8),
+    OutOfRange,
+    NoMembers,
+}
+
+// The allocator after `note_on`, and its answer.
+pub struct NotedOn {
+    pub allocator: MpeNoteAllocator,
+    pub reply: NoteOn,
+}
+
+// Of two channels that tie, the lower goes first.
+fn wins_tie(c: usize, b: usize) -> bool
+    ensures { λ r. ⌜ r ≡ tieFirst c b ⌝ }
+{
+    c <= b
+}
+
+// The smaller number goes first, and equal ones leave it to the rest.
+fn smaller_first(x: u32, y: u32, rest: bool) -> bool
+    ensures { λ r. ⌜ r ≡ smallerFirst x y rest ⌝ }
+{
+    if x == y {
+        return rest;
+    }
+    x < y
+}
+
+// A free channel whose last note is this one, under the same-note option.
+fn is_recall(option: bool, held: u8, last: u8, mark: u8) -> bool
+    ensures { λ r. ⌜ r ≡ recalls option held last mark ⌝ }
+{
+    if option {
+        if held == 0 {
+            return last == mark;
+        }
+        return false;
+    }
+    false
+}
+
+// A channel that recalls goes before one that does not; of two that recall `latest` decides, of two others `idlest`.
+fn by_recall(c: bool, b: bool, latest: bool, idlest: bool) -> bool
+    ensures { λ r. ⌜ r ≡ byRecall c b latest idlest ⌝ }
+{
+    if c {
+        if b {
+            return latest;
+        }
+        return true;
+    }
+    if b {
+        return false;
+    }
+    idlest
+}
+
+// One more, and no more than 255.
+fn one_more(held: u8) -> u8
+    ensures { λ r. ⌜ r ≡ oneMore held ⌝ }
+{
+    if held == 255 {
+        return 255;
+    }
+    held + 1
+}
+
+// The release clock, a step later: from 4,294,967,295 to 0.
+fn ticked(clock: u32) -> u32
+    ensures { λ r. ⌜ r ≡ tick clock ⌝ }
+{
+    std::num::wrapping_add_u32(clock, 1)
+}
+
+impl MpeNoteAllocator {
+    // No held note, and the same-note option off.
+    pub fn new() -> MpeNoteAllocator
+        ensures { λ r. ⌜ r ≡ emptied false ⌝ }
+    {
+        emptied(false)
+    }
+
+    fn recalls_on(self, mark: u8, c: usize) -> bool
+        requires { ⌜ c < 16 ⌝ }
+        ensures { λ r. ⌜ r ≡ recallsOn self mark c ⌝ }
+    {
+        is_recall(self.same_note, self.active[c], self.last_note[c], mark)
+    }
+
+    // The latest release goes first.
+    fn latest_first(self, c: usize, b: usize) -> bool
+        requires { ⌜ (c < 16) × (b < 16) ⌝ }
+        ensures { λ r. ⌜ r ≡ latestFirst self c b ⌝ }
+    {
+        smaller_first(self.last_off[b], self.last_off[c], wins_tie(c, b))
+    }
+
+    // The smallest pair of held notes and last release goes first.
+    fn idlest_first(self, c: usize, b: usize) -> bool
+        requires { ⌜ (c < 16) × (b < 16) ⌝ }
+        ensures { λ r. ⌜ r ≡ idlestFirst self c b ⌝ }
+    {
+        let oldest = smaller_first(self.last_off[c], self.last_off[b], wins_tie(c, b));
+        smaller_first(self.active[c] as u32, self.active[b] as u32, oldest)
+    }
+
+    // Channel c goes before channel b, for a note of this mark.
+    fn goes_first(self, mark: u8, c: usize, b: usize) -> bool
+        requires { ⌜ (c < 16) × (b < 16) ⌝ }
+        ensures { λ r. ⌜ r ≡ goesFirst self mark c b ⌝ }
+    {
+        by_recall(
+            self.recalls_on(mark, c),
+            self.recalls_on(mark, b),
+            self.latest_first(c, b),
+            self.idlest_first(c, b),
+        )
+    }
+
+    // The one of two channels that goes first.
+    fn foremost_of(self, mark: u8, b: usize, c: usize) -> usize
+        requires { ⌜ (b < 16) × (c < 16) ⌝ }
+        ensures { λ r. ⌜ r ≡ foremostOf self mark b c ⌝ }
+    {
+        if self.goes_first(mark, b, c) {
+            return b;
+        }
+        c
+    }
+
+    // The foremost channel from `first` up to below `end`.
+    fn foremost(self, mark: u8, first: usize, end: usize) -> usize
+        requires { ⌜ (first < end) × (end ≤ 16) ⌝ }
+        ensures { λ r. ⌜ Foremost self mark first end r ⌝ }
+    {
+        let mut best = first;
+        let mut c = first + 1;
+        while c < end {
+            best = self.foremost_of(mark, best, c);
+            c += 1;
+        }
+        best
+    }
+
+    // The allocator with a note of this mark on channel c.
+    fn with_note(self, mark: u8, c: usize) -> MpeNoteAllocator
+        requires { ⌜ c < 16 ⌝ }
+        ensures { λ r. ⌜ r ≡ withNote self mark c ⌝ }
+    {
+        let held = one_more(self.active[c]);
+        let mut a = self;
+        a.active[c] = held;
+        a.last_note[c] = mark;
+        a
+    }
+
+    // A note of this mark on the foremost channel from `first` up to below `end`.
+    fn place(self, mark: u8, first: usize, end: usize) -> NotedOn
+        requires { ⌜ (first < end) × (end ≤ 16) ⌝ }
+        ensures { λ r. ⌜ Placed self mark first end r ⌝ }
+    {
+        let c = self.foremost(mark, first, end);
+        let a = self.with_note(mark, c);
+        let channel = c as u8;
+        NotedOn {
+            allocator: a,
+            reply: NoteOn::Channel(channel),
+        }
+    }
+
+    // A member of `zone` for a new note, held there from now on (1.5.1, 2.2.4.1, A.3). A note is taken modulo 128.
+    pub fn note_on(self, layout: MpeLayout, zone: MpeZone, note: u8) -> NotedOn
+        ensures chosen { λ r. ⌜ NotedAs self layout zone note (noteOnFound (r .reply)) (r .allocator) ⌝ }
+        ensures is { λ r. ⌜ r ≡ notedOn self layout zone note ⌝ }
+    {
+        match layout.lowest_member(zone) {
+            LowestMember::OutOfRange => NotedOn {
+                allocator: self,
+                reply: NoteOn::OutOfRange,
+            },
+            LowestMember::NoMembers => NotedOn {
+                allocator: self,
+                reply: NoteOn::NoMembers,
+            },
+            LowestMember::Channel(first) => match layout.members(zone) {
+                Members::OutOfRange => NotedOn {
+                    allocator: self,
+                    reply: NoteOn::OutOfRange,
+                },
+                Members::Count(n) => {
+                    let end = first as usize + n as usize;
+                    self.place(0x80 + note % 128, first as usize, end)
+                }
+            },
+        }
+    }
+
+    // A note on `channel` ended. A channel without a held note changes nothing.
+    pub fn note_off(self, channel: u8) -> MpeNoteAllocator
+        ensures { λ r. ⌜ r ≡ withoutNote self (packetValue channel) ⌝ }
+    {
+        let c = (channel % 16) as usize;
+        let held = self.active[c];
+        if held == 0 {
+            return self;
+        }
+        let clock = ticked(self.clock);
+        let mut a = self;
+        a.active[c] = held - 1;
+        a.last_off[c] = clock;
+        a.clock = clock;
+        a
+    }
+
+    // The count of held notes on `channel`.
+    pub fn active_notes(self, channel: u8) -> u8
+        ensures { λ r. ⌜ r ≡ heldOn self (packetValue channel) ⌝ }
+    {
+        let c = (channel % 16) as usize;
+        self.active[c]
+    }
+
+    // The same-note option of A.3.
+    pub fn same_note(self) -> bool
+        ensures { λ r. ⌜ r ≡ self .«same_note» ⌝ }
+    {
+        self.same_note
+    }
+
+    // The same-note option on or off.
+    pub fn set_same_note(self, on: bool) -> MpeNoteAllocator
+        ensures { λ r. ⌜ r ≡ withOption self on ⌝ }
+    {
+        let mut a = self;
+        a.same_note = on;
+        a
+    }
+
+    // No held note and no release; the same-note option stays.
+    pub fn reset(self) -> MpeNoteAllocator
+        ensures { λ r. ⌜ r ≡ emptied (self .«same_note») ⌝ }
+    {
+        emptied(self.same_note)
+    }
+}
+
+// An allocator with no held note.
+fn emptied(option: bool) -> MpeNoteAllocator
+    ensures { λ r. ⌜ r ≡ emptied option ⌝ }
+{
+    MpeNoteAllocator {
+        active: [0; 16],
+        last_note: [0; 16],
+        last_off: [0; 16],
+        clock: 0,
+        same_note: option,
+    }
+}

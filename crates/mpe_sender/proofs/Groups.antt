@@ -1,0 +1,105 @@
+-- Groups of messages: the words of a parameter's group, groups at the front of a buffer, and one group more behind those that are written.
+-- Assumes nothing.
+use mathlib.Core.Path.{_≡_, refl, _∙_}
+use mathlib.Core.List.{List, [], _∷_, _++_, append-assoc, append-nil}
+use Prim.Native.Nat.{ℕ, zero, suc, _+_, _*_, _-_, _%_, _<_, _≤_}
+use native.Mathlib.Nat.{le-refl, mod-eq-of-lt}
+use native.Mathlib.Numerals.{add-one}
+use native.Mathlib.Omega.{arith}
+use lib.Dec.{eqb, lit<}
+use lib.ListN.{length, take, drop, set, length-append, length-drop}
+use lib.Seq.{take-at, drop-at, drop-drop, take-all, drop-length}
+use borrow.Author.Tests.{le-ltb, eqb-false}
+use borrow.Rule.Slice.PartMut.{midOf, putMid, post-is}
+use Rattle.ump.specs.Outcome.{given, outOfRange, allOf, followedBy}
+use Rattle.ump.specs.Packet.{packetValue}
+use Rattle.ump.specs.Word.{controlChange, twoDataWord}
+use Rattle.ump.proofs.Cases.{by-test}
+use Rattle.parameters.specs.Writers.{numberMessages}
+use Rattle.mpe_layout.specs.Layout.{managerOf}
+use Rattle.mpe_layout.specs.declared.MpeZone.{MpeZone}
+use Rattle.mpe_layout.specs.declared.MpeZone.the-variants.{Lower, Upper}
+use Rattle.mpe_sender.specs.Writers.{rpnGroup, sensitivityGroup, groupSize, sensitivityMessages}
+use Rattle.mpe_sender.specs.Zone.{channelAt, semitonesAt, groupAt, InRange, groups}
+use Rattle.mpe_sender.specs.declared.ZoneGroups.{ZoneGroups}
+
+-- a number and a value of seven bits give the group's three words
+pub rpn-given : (channel msb lsb value : ℕ) → msb ≤ 0x7F → lsb ≤ 0x7F → value ≤ 0x7F
+    → followedBy (numberMessages channel 101 100 msb lsb) (allOf (controlChange channel 6 value ∷ [])) ≡ given (rpnGroup (channel % 16) msb lsb value)
+unfolding twoDataWord
+rpn-given channel msb lsb value m l v = rw (le-ltb 0x7F msb m, le-ltb 0x7F lsb l, le-ltb 0x7F value v)
+
+-- a manager is a channel
+pub manager-lt : (zone : MpeZone) → managerOf zone < 16
+manager-lt Lower = lit< tt
+manager-lt Upper = lit< tt
+
+pub manager-channel : (zone : MpeZone) → managerOf zone % 16 ≡ managerOf zone
+manager-channel Lower = refl
+manager-channel Upper = refl
+
+pub group-length : (channel semitones : ℕ) → length (sensitivityGroup channel semitones) ≡ groupSize
+group-length channel semitones = refl
+
+pub groups-length : (z : ZoneGroups) (n : ℕ) → length (groups z n) ≡ groupSize * n
+unfolding groups
+groups-length z zero = refl
+groups-length z (suc n) = simp (length-append, group-length) (omega (arith, groups-length z n))
+
+-- three words at the front
+pub three : (xs : List ℕ) (a b c : ℕ) → 3 ≤ length xs → set (set (set xs 0 a) 1 b) 2 c ≡ a ∷ b ∷ c ∷ drop 3 xs
+three [] a b c h = absurd (omega arith)
+three (x ∷ []) a b c h = absurd (omega arith)
+three (x ∷ y ∷ []) a b c h = absurd (omega arith)
+three (x ∷ y ∷ z ∷ zs) a b c h = refl
+
+-- the part from a on is what lies there, and ys in its place end the list
+tail-mid : (a : ℕ) (xs : List ℕ) → midOf a (length xs - a) xs ≡ drop a xs
+tail-mid a xs = take-all (length xs - a) (drop a xs) (simp length-drop (le-refl (length xs - a)))
+
+tail-put : (a : ℕ) (xs ys : List ℕ) → a ≤ length xs → putMid a (length xs - a) xs ys ≡ take a xs ++ ys
+tail-put a xs ys h = rw (post-is a (length xs) xs h, drop-length, append-nil)
+
+-- what is written, p, grows by g, and the rest is still what was there
+grown : (xs₀ xs p g ys : List ℕ) (a m : ℕ) → length p ≡ a → a ≤ length xs → xs ≡ p ++ drop a xs₀ → ys ≡ g ++ drop m (midOf a (length xs - a) xs)
+    → putMid a (length xs - a) xs ys ≡ (p ++ g) ++ drop (a + m) xs₀
+grown xs₀ xs p g ys a m hp h e y =
+    let t : take a xs ≡ p = rw e (take-at p (drop a xs₀) a hp) in
+    let d : drop a xs ≡ drop a xs₀ = rw e (drop-at p (drop a xs₀) a hp) in
+    let z : ys ≡ g ++ drop (a + m) xs₀ = y ∙ rw (tail-mid, d, drop-drop) in
+    rw (tail-put a xs ys h, t, z, append-assoc)
+
+-- one group more
+pub groups-more : (z : ZoneGroups) (k : ℕ) (xs₀ xs ys : List ℕ) → groupSize * k ≤ length xs → xs ≡ groups z k ++ drop (groupSize * k) xs₀
+    → ys ≡ groupAt z k ++ drop groupSize (midOf (groupSize * k) (length xs - groupSize * k) xs)
+    → putMid (groupSize * k) (length xs - groupSize * k) xs ys ≡ groups z (k + 1) ++ drop (groupSize * (k + 1)) xs₀
+unfolding groups
+groups-more z k xs₀ xs ys h e y =
+    let m : groupSize * suc k ≡ groupSize * k + groupSize = omega arith in
+    rw (add-one, m) (grown xs₀ xs (groups z k) (groupAt z k) ys (groupSize * k) groupSize (groups-length z k) h e y)
+
+-- the words that are given for a channel and allowed semitones are its group
+pub group-words : (channel semitones a b c : ℕ) → channel < 16 → semitones ≤ 96 → given (a ∷ b ∷ c ∷ []) ≡ sensitivityMessages channel semitones → a ∷ b ∷ c ∷ [] ≡ sensitivityGroup channel semitones
+unfolding sensitivityMessages
+group-words channel semitones a b c h s e =
+    let f : given (a ∷ b ∷ c ∷ []) ≡ given (sensitivityGroup channel semitones) = rw (le-ltb 96 semitones s, mod-eq-of-lt h) at e in
+    cc
+
+pub group-made : (channel semitones : ℕ) → semitones ≤ 96 → outOfRange ≡ sensitivityMessages channel semitones → ⊥
+unfolding sensitivityMessages
+group-made channel semitones s e =
+    let f : outOfRange ≡ given (sensitivityGroup (packetValue channel) semitones) = rw (le-ltb 96 semitones s) at e in
+    let z : _≡_ {A = ℕ} 0 1 = cc in
+    omega arith
+
+-- the k-th channel is one, and its semitones are allowed
+pub channel-lt : (z : ZoneGroups) (k : ℕ) → InRange z (k + 1) → channelAt (z .manager) (z .lowest) k < 16
+unfolding channelAt
+channel-lt z k r =
+    by-test (eqb k 0)
+    (λ e. rw e (r .manager-in))
+    (λ e. rw e (omega (arith, r .members-in, eqb-false k 0 e)))
+
+pub semitones-le : (z : ZoneGroups) (k n : ℕ) → InRange z n → semitonesAt (z .«at_manager») (z .«at_member») k ≤ 96
+unfolding semitonesAt
+semitones-le z k n r = by-test (eqb k 0) (λ e. rw e (r .manager-low)) (λ e. rw e (r .member-low))

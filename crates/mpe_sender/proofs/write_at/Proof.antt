@@ -1,0 +1,32 @@
+-- `mpe_sender::write_at` meets its contract: the group of the k-th channel.
+-- Assumes nothing.
+use native.Mathlib.Omega.{arith}
+use Prim.Native.Nat.{_+_}
+use borrow.Author.Needs.{needs}
+use Rattle.mpe_sender.proofs.Groups.{channel-lt, semitones-le}
+use Rattle.mpe_sender.proofs.write_at.Statement.{statement}
+use Rattle.mpe_sender.proofs.write_at.Tie as tie
+
+channel-at-requires : tie.Need-channel-at-requires
+channel-at-requires c κs = search needs
+
+semitones-at-requires : tie.Need-semitones-at-requires
+semitones-at-requires c κs = search needs
+
+write-group-requires : tie.Need-write-group-requires
+write-group-requires c κs = let s = c .before .before .before .before in
+    let z = s .args .zone in
+    let k = s .args .k in
+    let r = s .pre .1 in
+    (omega arith, omega (arith, c .before .channel-at .ensures, channel-lt z k r), omega (arith, c .semitones-at .ensures, semitones-le z k (k + 1) r))
+
+same-length : tie.Need-same-length
+same-length c = search needs
+
+returns : tie.Need-returns
+returns c = cc
+
+pub write-at-spec : {M : Type 1} → statement M
+write-at-spec =
+    tie.close
+    (tie.spec channel-at-requires semitones-at-requires write-group-requires same-length returns)

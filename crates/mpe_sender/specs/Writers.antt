@@ -1,0 +1,71 @@
+-- The messages that a sender writes for a channel or a note, with Group 0 (M1-100 2.2.1, 2.2.4.3, 2.2.5, 2.4, Appendices B and C).
+use Prim.Native.Nat.{ℕ}
+use mathlib.Core.Bool.{Bool, true, false}
+use mathlib.Core.List.{List, [], _∷_}
+use lib.Dec.{ltb, eqb}
+use lib.ListN.{length}
+use Rattle.ump.specs.Choice.{if_then_else_}
+use Rattle.ump.specs.Outcome.{Outcome, given, outOfRange, allOf, followedBy}
+use Rattle.ump.specs.Packet.{packetValue}
+use Rattle.ump.specs.Word.{wordOf, controlChange, twoDataWord, oneDataWord, bendWord}
+use Rattle.ump.specs.declared.controller.Rpn.{Rpn}
+use Rattle.parameters.specs.Writers.{selectMessages, changeMessage}
+use Rattle.parameters.specs.declared.Parameter.the-variants.{Registered}
+use Rattle.parameters.specs.declared.ParameterChange.the-variants.{DataEntryMsb}
+use Rattle.mpe_layout.specs.Layout.{ofLegal, membersOf, managerOf, lowestOf}
+use Rattle.mpe_layout.specs.declared.MpeZone.{MpeZone}
+use Rattle.mpe_layout.specs.declared.MpeLayout.{MpeLayout}
+
+-- the word of a Control Change
+abbrev pub controlWord : ℕ → ℕ → ℕ → ℕ
+controlWord channel controller value = wordOf 0 0xB channel controller value
+
+-- RPN msb lsb with Data Entry MSB and no LSB: controllers 101, 100 and 6
+abbrev pub rpnGroup : ℕ → ℕ → ℕ → ℕ → List ℕ
+rpnGroup channel msb lsb value =
+    controlWord channel 101 msb ∷ controlWord channel 100 lsb ∷ controlWord channel 6 value ∷ []
+
+-- as the writers of parameters have it: the number, then the data
+abbrev pub rpnMessages : ℕ → Rpn → ℕ → Outcome (List ℕ)
+rpnMessages channel rpn value =
+    followedBy (selectMessages channel (Registered rpn)) (allOf (changeMessage channel (DataEntryMsb value) ∷ []))
+
+-- an MPE Configuration Message is RPN 0 6 on the manager (2.2.1)
+unfoldable pub mcmMessages : MpeZone → ℕ → Outcome (List ℕ)
+mcmMessages zone members = if ltb 15 members then outOfRange else given (rpnGroup (managerOf zone) 0 6 members)
+
+-- the messages that set the Pitch Bend Sensitivity of a channel: RPN 0 0 in whole semitones (2.2.5, C.2)
+abbrev pub sensitivityGroup : ℕ → ℕ → List ℕ
+sensitivityGroup channel semitones = rpnGroup channel 0 0 semitones
+
+-- how many they are
+abbrev pub groupSize : ℕ
+groupSize = length (sensitivityGroup 0 0)
+
+-- at most 96 semitones (2.2.5)
+unfoldable pub sensitivityMessages : ℕ → ℕ → Outcome (List ℕ)
+sensitivityMessages channel semitones =
+    if ltb 96 semitones then outOfRange else given (sensitivityGroup (packetValue channel) semitones)
+
+-- to a writer an illegal layout and a zone without members are out of range
+abbrev pub inActive : {A : Type 0} → MpeLayout → MpeZone → Outcome A → Outcome A
+inActive l zone answer = ofLegal l (if eqb (membersOf l zone) 0 then outOfRange else answer)
+
+-- Mono Mode On (126) with the member count, or Poly Mode On (127) with 0 (2.2.4.3)
+unfoldable pub modeOn : ℕ → ℕ → Bool → Outcome ℕ
+modeOn lowest members mono = if mono then controlChange lowest 126 members else controlChange lowest 127 0
+
+-- on the lowest member of the zone (2.2.4.3)
+abbrev pub modeMessage : MpeLayout → MpeZone → Bool → Outcome ℕ
+modeMessage l zone mono = inActive l zone (modeOn (lowestOf l zone) (membersOf l zone) mono)
+
+-- the start of a note: Pitch Bend, controller 74, Channel Pressure, then Note On (2.4, Table 4); velocity 0 would be a Note Off
+unfoldable pub noteMessages : ℕ → ℕ → ℕ → ℕ → ℕ → ℕ → Outcome (List ℕ)
+noteMessages channel note velocity bend brightness pressure =
+    if eqb velocity 0 then outOfRange else
+    allOf
+    (bendWord 0 (packetValue channel) bend
+    ∷ controlChange channel 74 brightness
+    ∷ oneDataWord 0xD 0 (packetValue channel) pressure
+    ∷ twoDataWord 0x9 0 (packetValue channel) note velocity
+    ∷ [])

@@ -1,0 +1,81 @@
+-- The sensitivity messages of a whole zone (M1-100 2.2.5), and the buffer that they are written to.
+use Prim.Native.Nat.{ℕ, zero, suc, _+_, _*_, _-_, _<_, _≤_}
+use mathlib.Core.Bool.{Bool, true, false}
+use mathlib.Core.List.{List, [], _∷_, _++_}
+use lib.Dec.{ltb, eqb}
+use lib.ListN.{length, drop}
+use Rattle.ump.specs.Choice.{if_then_else_}
+use Rattle.ump.specs.Outcome.{Outcome, given, declined, outOfRange, tooSmall}
+use Rattle.mpe_layout.specs.Layout.{legal, ofLegal, membersOf, managerOf, lowestOf, lowestOrNone}
+use Rattle.mpe_layout.specs.declared.MpeZone.{MpeZone}
+use Rattle.mpe_layout.specs.declared.MpeLayout.{MpeLayout}
+use Rattle.mpe_sender.specs.Writers.{sensitivityGroup, groupSize, inActive}
+use Rattle.mpe_sender.specs.declared.ActiveZone.{ActiveZone}
+use Rattle.mpe_sender.specs.declared.ActiveZone.the-variants as activeZone
+use Rattle.mpe_sender.specs.declared.ZoneGroups.{ZoneGroups}
+use Rattle.mpe_sender.specs.declared.Written.{Written}
+use Rattle.mpe_sender.specs.declared.Written.the-variants.{Count, OutOfRange, TooSmall}
+
+-- a zone with members
+abbrev pub zoneFrom : Outcome ℕ → Outcome ℕ → ActiveZone
+zoneFrom (given lowest) (given members) = activeZone.Zone lowest members
+zoneFrom (given lowest) (declined n v) = activeZone.OutOfRange
+zoneFrom (declined n v) members = activeZone.OutOfRange
+
+abbrev pub zoneFor : MpeLayout → MpeZone → ActiveZone
+zoneFor l zone = zoneFrom (ofLegal l (lowestOrNone zone (membersOf l zone))) (ofLegal l (given (membersOf l zone)))
+
+-- the channels of a zone: the manager, then the members rising
+unfoldable pub channelAt : ℕ → ℕ → ℕ → ℕ
+channelAt manager lowest k = if eqb k 0 then manager else lowest + (k - 1)
+
+-- their semitones: the manager's, then the members'
+unfoldable pub semitonesAt : ℕ → ℕ → ℕ → ℕ
+semitonesAt manager member k = if eqb k 0 then manager else member
+
+abbrev pub zoneGroups : ℕ → ℕ → ℕ → ℕ → ZoneGroups
+zoneGroups manager lowest a b = record { manager = manager; lowest = lowest; «at_manager» = a; «at_member» = b }
+
+-- the group of the k-th channel
+abbrev pub groupAt : ZoneGroups → ℕ → List ℕ
+groupAt z k =
+    sensitivityGroup (channelAt (z .manager) (z .lowest) k) (semitonesAt (z .«at_manager») (z .«at_member») k)
+
+-- the first n channels are channels, and their semitones are allowed
+pub record InRange (z : ZoneGroups) (n : ℕ) : Type 0 where
+  pub manager-in : z .manager < 16
+  pub members-in : z .lowest + n ≤ 17
+  pub manager-low : z .«at_manager» ≤ 96
+  pub member-low : z .«at_member» ≤ 96
+
+-- the groups of the first n channels, one after the other
+unfoldable pub groups : ZoneGroups → ℕ → List ℕ
+groups z zero = []
+groups z (suc n) = groups z n ++ groupAt z n
+
+-- the messages of a zone: a group for its manager and for each member
+abbrev pub zoneWords : MpeLayout → MpeZone → ℕ → ℕ → List ℕ
+zoneWords l zone manager member =
+    groups (zoneGroups (managerOf zone) (lowestOf l zone) manager member) (membersOf l zone + 1)
+
+-- how many words: at most 96 semitones, and a buffer that holds them
+unfoldable pub fillReply : ℕ → ℕ → ℕ → ℕ → Outcome ℕ
+fillReply members manager member got =
+    if ltb 96 manager then outOfRange else
+    if ltb 96 member then outOfRange else
+    if ltb got (groupSize * (members + 1)) then tooSmall (groupSize * (members + 1)) got else
+    given (groupSize * (members + 1))
+
+abbrev pub zoneReply : MpeLayout → MpeZone → ℕ → ℕ → ℕ → Outcome ℕ
+zoneReply l zone manager member got = inActive l zone (fillReply (membersOf l zone) manager member got)
+
+-- a buffer afterwards: the words at its front and the rest as it was, or on a refusal all as it was
+abbrev pub filled : Outcome ℕ → List ℕ → List ℕ → List ℕ
+filled (given n) words out = words ++ drop n out
+filled (declined n v) words out = out
+
+-- what the answer gives or declines
+abbrev pub writtenRead : Written → Outcome ℕ
+writtenRead (Count n) = given n
+writtenRead OutOfRange = outOfRange
+writtenRead (TooSmall needed got) = tooSmall needed got
