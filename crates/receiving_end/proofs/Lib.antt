@@ -1,0 +1,9 @@
+-- Laws that proofs of this crate and of those above it cite.
+pub mod Bytes
+pub mod Messages
+pub mod Formed
+pub mod Parts
+pub mod Quiet
+pub mod Tell
+pub mod Numbers
+pub mod Always

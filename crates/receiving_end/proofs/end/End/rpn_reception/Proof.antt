@@ -1,0 +1,21 @@
+-- `receiving_end::end::End::rpn_reception` meets its contract.
+-- Assumes nothing.
+use borrow.Author.Needs.{needs}
+use Rattle.receiving_end.proofs.end.End.rpn_reception.Statement.{statement}
+use Rattle.receiving_end.proofs.end.End.rpn_reception.Tie as tie
+
+cast-parameter : tie.Need-cast-parameter
+cast-parameter c = search needs
+
+parameter-requires : tie.Need-parameter-requires
+parameter-requires c κs = search needs
+
+rpn-reception-requires : tie.Need-rpn-reception-requires
+rpn-reception-requires c κs = search needs
+
+returns : tie.Need-returns
+returns c = cc
+
+pub rpn-reception-spec : {M : Type 1} → statement M
+rpn-reception-spec =
+    tie.close (tie.spec cast-parameter parameter-requires rpn-reception-requires returns)

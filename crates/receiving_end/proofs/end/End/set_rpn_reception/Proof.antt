@@ -1,0 +1,25 @@
+-- `receiving_end::end::End::set_rpn_reception` meets its contract.
+-- Assumes nothing.
+use borrow.Author.Needs.{needs}
+use Rattle.receiving_end.proofs.end.End.set_rpn_reception.Statement.{statement}
+use Rattle.receiving_end.proofs.end.End.set_rpn_reception.Tie as tie
+
+cast-k : tie.Need-cast-k
+cast-k c = search needs
+
+parameter-requires : tie.Need-parameter-requires
+parameter-requires c κs = search needs
+
+set-rpn-reception-requires : tie.Need-set-rpn-reception-requires
+set-rpn-reception-requires c κs = search needs
+
+with-parameter-requires : tie.Need-with-parameter-requires
+with-parameter-requires c κs = search needs
+
+returns : tie.Need-returns
+returns c = cc
+
+pub set-rpn-reception-spec : {M : Type 1} → statement M
+set-rpn-reception-spec =
+    tie.close
+    (tie.spec cast-k parameter-requires set-rpn-reception-requires with-parameter-requires returns)

@@ -1,0 +1,47 @@
+-- `receiving_end::end::answer` meets its contract.
+-- Assumes nothing.
+use borrow.Author.Needs.{needs}
+use Rattle.receiving_end.proofs.end.answer.Statement.{statement}
+use Rattle.receiving_end.proofs.end.answer.Tie as tie
+use Rattle.ump.proofs.Auto.{auto}
+
+enum-told : tie.Need-enum-told
+enum-told c = search needs
+
+enum-told-2 : tie.Need-enum-told-2
+enum-told-2 c = search needs
+
+enum-known-read : tie.Need-enum-known-read
+enum-known-read c = search needs
+
+enum-known-read-2 : tie.Need-enum-known-read-2
+enum-known-read-2 c = search needs
+
+message-requires : tie.Need-message-requires
+message-requires c κs = search needs
+
+returns : tie.Need-returns
+returns c = search (auto, c .enum-told .given .1)
+
+returns-2 : tie.Need-returns-2
+returns-2 c = search (auto, c .enum-told2 .given .1)
+
+returns-3 : tie.Need-returns-3
+returns-3 c = search (auto, c .before .read .given .1)
+
+returns-4 : tie.Need-returns-4
+returns-4 c = search (auto, c .before .before .read2 .given .1, c .message .ensures)
+
+pub answer-spec : {M : Type 1} → statement M
+answer-spec =
+    tie.close
+    (tie.spec
+    enum-told
+    enum-told-2
+    enum-known-read
+    enum-known-read-2
+    message-requires
+    returns
+    returns-2
+    returns-3
+    returns-4)

@@ -1,0 +1,22 @@
+-- `receiving_end::end::step` meets its contract.
+-- Assumes nothing.
+use borrow.Author.Needs.{needs}
+use Rattle.receiving_end.proofs.end.step.Statement.{statement}
+use Rattle.receiving_end.proofs.end.step.Tie as tie
+use Rattle.receiving_end.specs.End.{stepOf}
+use mathlib.Core.Path.{_≡_, ap}
+
+step-requires : tie.Need-step-requires
+step-requires c κs = search needs
+
+answer-requires : tie.Need-answer-requires
+answer-requires c κs = search needs
+
+returns : tie.Need-returns
+unfolding stepOf
+returns c =
+    let s : c .answer .result ≡ stepOf (c .before .before .before .before .args .end) (c .before .before .before .before .args .b) = cc in
+    (ap (λ x. x .reply) s, ap (λ x. x .end) s)
+
+pub step-spec : {M : Type 1} → statement M
+step-spec = tie.close (tie.spec step-requires answer-requires returns)

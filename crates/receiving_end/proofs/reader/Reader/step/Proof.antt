@@ -1,0 +1,17 @@
+-- `receiving_end::reader::Reader::step` meets its contract.
+-- Assumes nothing.
+use borrow.Author.Needs.{needs}
+use Rattle.receiving_end.proofs.reader.Reader.step.Statement.{statement}
+use Rattle.receiving_end.proofs.reader.Reader.step.Tie as tie
+
+class-of-requires : tie.Need-class-of-requires
+class-of-requires c κs = search needs
+
+by-class-requires : tie.Need-by-class-requires
+by-class-requires c κs = search needs
+
+returns : tie.Need-returns
+returns c = cc
+
+pub step-spec : {M : Type 1} → statement M
+step-spec = tie.close (tie.spec class-of-requires by-class-requires returns)

@@ -1,0 +1,43 @@
+-- `receiving_end::reader::class_of` meets its contract.
+-- Assumes nothing.
+use Rattle.receiving_end.proofs.reader.class_of.Statement.{statement}
+use Rattle.receiving_end.proofs.reader.class_of.Tie as tie
+use Rattle.ump.proofs.Auto.{auto}
+use Rattle.receiving_end.specs.Reader.{classOf}
+
+returns : tie.Need-returns
+unfolding classOf
+returns c = search auto
+
+returns-2 : tie.Need-returns-2
+unfolding classOf
+returns-2 c = search auto
+
+returns-3 : tie.Need-returns-3
+unfolding classOf
+returns-3 c = search auto
+
+returns-4 : tie.Need-returns-4
+unfolding classOf
+returns-4 c = search auto
+
+returns-5 : tie.Need-returns-5
+unfolding classOf
+returns-5 c = search auto
+
+returns-6 : tie.Need-returns-6
+unfolding classOf
+returns-6 c = search auto
+
+returns-7 : tie.Need-returns-7
+unfolding classOf
+returns-7 c = search auto
+
+returns-8 : tie.Need-returns-8
+unfolding classOf
+returns-8 c = search auto
+
+pub class-of-spec : {M : Type 1} → statement M
+class-of-spec =
+    tie.close
+    (tie.spec returns returns-2 returns-3 returns-4 returns-5 returns-6 returns-7 returns-8)

@@ -1,0 +1,44 @@
+-- `receiving_end::reader::data_byte` meets its contract.
+-- Assumes nothing.
+use borrow.Author.Needs.{needs}
+use Rattle.receiving_end.proofs.reader.data_byte.Statement.{statement}
+use Rattle.receiving_end.proofs.reader.data_byte.Tie as tie
+use Rattle.ump.proofs.Auto.{auto}
+use Rattle.receiving_end.specs.Reader.{dataStep}
+
+returns : tie.Need-returns
+unfolding dataStep
+returns c = search auto
+
+data-of-two-requires : tie.Need-data-of-two-requires
+data-of-two-requires c κs = search needs
+
+returns-2 : tie.Need-returns-2
+unfolding dataStep
+returns-2 c = search (auto, c .data-of-two .ensures)
+
+word-of-requires : tie.Need-word-of-requires
+word-of-requires c κs = search needs
+
+returns-3 : tie.Need-returns-3
+unfolding dataStep
+returns-3 c = search (auto, c .word-of .ensures)
+
+data-of-two-requires-2 : tie.Need-data-of-two-requires-2
+data-of-two-requires-2 c κs = search needs
+
+returns-4 : tie.Need-returns-4
+unfolding dataStep
+returns-4 c = search (auto, c .data-of-two2 .ensures)
+
+pub data-byte-spec : {M : Type 1} → statement M
+data-byte-spec =
+    tie.close
+    (tie.spec
+    returns
+    data-of-two-requires
+    returns-2
+    word-of-requires
+    returns-3
+    data-of-two-requires-2
+    returns-4)

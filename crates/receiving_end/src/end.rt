@@ -1,0 +1,304 @@
+// The end: the byte call by value and lent, the layout, the reception switches, and every reading.
+ghost use mathlib.Core.Path.{_≡_};
+ghost use Prim.Native.Nat.{_<_};
+ghost use Rattle.ump.specs.Packet.{packetValue};
+ghost use Rattle.parameters.specs.State.{replyRead as parameterReplyRead};
+ghost use Rattle.mpe_receiver.specs.Receive.{replyRead as receiverReplyRead};
+ghost use Rattle.parameters.specs.State.{selectionOf};
+ghost use Rattle.mpe_layout.specs.Reset.{maskFound};
+ghost use Rattle.mpe_receiver.specs.Receive.{setReply};
+ghost use Rattle.mpe_receiver.specs.Read.{modeOf, sensitivityOf, bendAt, pressureAt, brightnessAt, offsetOf, offsetRead};
+ghost use Rattle.receiving_end.specs.Lists.{heard};
+ghost use Rattle.receiving_end.specs.End.{newEnd, parameterAt, eventIn, mpeIn, messageAt, messageStep, answerStep, stepReply, stepEnd, withParameter, laidOutEnd, rpnSwitchedAt, nrpnSwitchedAt};
+use crate::reader::Read;
+use crate::reader::Reader;
+use mpe_layout::MpeLayout;
+use mpe_layout::MpeZone;
+use mpe_layout::ResetMask;
+use mpe_pitch::MpeSensitivity;
+use mpe_receiver::MpeEvent;
+use mpe_receiver::MpeReceiver;
+use mpe_receiver::Offset;
+use parameters::MaybeEvent;
+use parameters::ParameterState;
+use parameters::Selection;
+use ump::channel_voice1::channel;
+
+// A reader, the parameters of each channel, and one receiver.
+pub struct End {
+    pub reader: Reader,
+    pub parameters: [ParameterState; 16],
+    pub receiver: MpeReceiver,
+}
+
+// What a byte gets.
+pub enum Reply {
+    Quiet,
+    Dropped,
+    RealTime(u8),
+    // The message's word, and what the receiver made of it.
+    Message(u32, MpeEvent),
+}
+
+pub struct Stepped {
+    pub end: End,
+    pub reply: Reply,
+}
+
+// What `set_layout` gives.
+pub struct LayoutSet {
+    pub end: End,
+    pub reply: ResetMask,
+}
+
+fn event_in(reply: parameters::Reply) -> MaybeEvent
+    ensures { λ r. ⌜ r ≡ eventIn (parameterReplyRead reply) ⌝ }
+{
+    match reply {
+        parameters::Reply::Heard(e) => e,
+        parameters::Reply::OutOfRange => MaybeEvent::NoEvent,
+    }
+}
+
+fn mpe_in(reply: mpe_receiver::Reply) -> MpeEvent
+    ensures { λ r. ⌜ r ≡ mpeIn (receiverReplyRead reply) ⌝ }
+{
+    match reply {
+        mpe_receiver::Reply::Heard(e) => e,
+        mpe_receiver::Reply::OutOfRange => MpeEvent::Ignored,
+    }
+}
+
+// A message of channel k: its parameters hear it first, and the receiver gets their event.
+fn message_at(end: End, k: usize, word: u32) -> Stepped
+    requires { ⌜ k < 16 ⌝ }
+    ensures { λ r. ⌜ r ≡ messageAt end k word ⌝ }
+{
+    let p = end.parameters[k];
+    let heard = p.receive(word);
+    let state = heard.state;
+    let said = heard.reply;
+    let receiver = end.receiver;
+    let got = receiver.receive(word, event_in(said));
+    let next = got.receiver;
+    let answered = got.reply;
+    let event = mpe_in(answered);
+    let mut n = end;
+    n.parameters[k] = state;
+    n.receiver = next;
+    Stepped {
+        end: n,
+        reply: Reply::Message(word, event),
+    }
+}
+
+fn message(end: End, word: u32) -> Stepped
+    ensures { λ r. ⌜ r ≡ messageStep end word ⌝ }
+{
+    message_at(end, channel(word) as usize, word)
+}
+
+// What the reader gave reaches the end.
+fn answer(end: End, next: Reader, read: Read) -> Stepped
+    ensures { λ r. ⌜ r ≡ answerStep end next read ⌝ }
+{
+    let mut n = end;
+    n.reader = next;
+    match read {
+        Read::Quiet => Stepped {
+            end: n,
+            reply: Reply::Quiet,
+        },
+        Read::Dropped => Stepped {
+            end: n,
+            reply: Reply::Dropped,
+        },
+        Read::RealTime(b) => Stepped {
+            end: n,
+            reply: Reply::RealTime(b),
+        },
+        Read::Message(word) => message(n, word),
+    }
+}
+
+// The byte call, by value.
+pub fn step(end: End, b: u8) -> Stepped
+    ensures { λ r. ⌜ (r .reply ≡ stepReply end b) × (r .end ≡ stepEnd end b) ⌝ }
+{
+    let reader = end.reader;
+    let s = reader.step(b);
+    let next = s.reader;
+    let read = s.read;
+    answer(end, next, read)
+}
+
+// The byte call on a lent end: the end is altered where it stands.
+pub fn byte(end: &mut End, b: u8) -> Reply
+    ensures { λ r. ⌜ (r ≡ stepReply (now (end .entry)) b) × (now (end .exit) ≡ stepEnd (now (end .entry)) b) ⌝ }
+{
+    let e = *end;
+    let s = step(e, b);
+    *end = s.end;
+    s.reply
+}
+
+// The lent call from values to a value.
+pub fn byte_of(e: End, b: u8) -> Stepped
+    ensures { λ r. ⌜ (r .reply ≡ stepReply e b) × (r .end ≡ stepEnd e b) ⌝ }
+{
+    let mut end = e;
+    let reply = byte(&mut end, b);
+    Stepped {
+        end: end,
+        reply: reply,
+    }
+}
+
+// The end after all of these bytes.
+pub fn hear(end: End, bytes: &[u8]) -> End
+    ensures { λ r. ⌜ r ≡ heard end (now (bytes .entry)) ⌝ }
+{
+    let mut e = end;
+    let mut i: usize = 0;
+    while i < bytes.len() {
+        let s = step(e, bytes[i]);
+        e = s.end;
+        i += 1;
+    }
+    e
+}
+
+impl End {
+    // No running status, no begun message, and the parts as when new.
+    pub fn new() -> End
+        ensures { λ r. ⌜ r ≡ newEnd ⌝ }
+    {
+        End {
+            reader: Reader::new(),
+            parameters: [ParameterState::new(); 16],
+            receiver: MpeReceiver::new(),
+        }
+    }
+
+    // The parameters of a channel below 16.
+    fn parameter(self, k: usize) -> ParameterState
+        requires { ⌜ k < 16 ⌝ }
+        ensures { λ r. ⌜ r ≡ parameterAt self k ⌝ }
+    {
+        self.parameters[k]
+    }
+
+    fn with_parameter(self, k: usize, state: ParameterState) -> End
+        requires { ⌜ k < 16 ⌝ }
+        ensures { λ r. ⌜ r ≡ withParameter self k state ⌝ }
+    {
+        let mut n = self;
+        n.parameters[k] = state;
+        n
+    }
+
+    // A layout that the application sets.
+    pub fn set_layout(self, layout: MpeLayout) -> LayoutSet
+        ensures { λ r. ⌜ (maskFound (r .reply) ≡ setReply (self .receiver) layout) × (r .end ≡ laidOutEnd self layout) ⌝ }
+    {
+        let receiver = self.receiver;
+        let set = receiver.set_layout(layout);
+        let after = set.receiver;
+        let reply = set.reply;
+        let mut n = self;
+        n.receiver = after;
+        LayoutSet { end: n, reply }
+    }
+
+    // Turns a channel's RPN reception on or off.
+    pub fn set_rpn_reception(self, channel: u8, on: bool) -> End
+        ensures { λ r. ⌜ r ≡ rpnSwitchedAt self channel on ⌝ }
+    {
+        let k = (channel % 16) as usize;
+        let p = self.parameter(k);
+        self.with_parameter(k, p.set_rpn_reception(on))
+    }
+
+    // Turns a channel's NRPN reception on or off.
+    pub fn set_nrpn_reception(self, channel: u8, on: bool) -> End
+        ensures { λ r. ⌜ r ≡ nrpnSwitchedAt self channel on ⌝ }
+    {
+        let k = (channel % 16) as usize;
+        let p = self.parameter(k);
+        self.with_parameter(k, p.set_nrpn_reception(on))
+    }
+
+    pub fn rpn_reception(self, channel: u8) -> bool
+        ensures { λ r. ⌜ r ≡ parameterAt self (packetValue channel) .«rpn_on» ⌝ }
+    {
+        let p = self.parameter((channel % 16) as usize);
+        p.rpn_reception()
+    }
+
+    pub fn nrpn_reception(self, channel: u8) -> bool
+        ensures { λ r. ⌜ r ≡ parameterAt self (packetValue channel) .«nrpn_on» ⌝ }
+    {
+        let p = self.parameter((channel % 16) as usize);
+        p.nrpn_reception()
+    }
+
+    // The parameter that a data entry on the channel acts on now.
+    pub fn selection(self, channel: u8) -> Selection
+        ensures { λ r. ⌜ r ≡ selectionOf (parameterAt self (packetValue channel)) ⌝ }
+    {
+        let p = self.parameter((channel % 16) as usize);
+        p.selection()
+    }
+
+    pub fn layout(self) -> MpeLayout
+        ensures { λ r. ⌜ r ≡ self .receiver .layout ⌝ }
+    {
+        let receiver = self.receiver;
+        receiver.layout()
+    }
+
+    // The mode of a zone: 3 or 4.
+    pub fn mode(self, zone: MpeZone) -> u8
+        ensures { λ r. ⌜ r ≡ modeOf (self .receiver) zone ⌝ }
+    {
+        let receiver = self.receiver;
+        receiver.mode(zone)
+    }
+
+    // The manager's or the members' sensitivity of a zone.
+    pub fn sensitivity(self, zone: MpeZone, manager: bool) -> MpeSensitivity
+        ensures { λ r. ⌜ r ≡ sensitivityOf (self .receiver) zone manager ⌝ }
+    {
+        let receiver = self.receiver;
+        receiver.sensitivity(zone, manager)
+    }
+
+    pub fn pitch_bend(self, channel: u8) -> u16
+        ensures { λ r. ⌜ r ≡ bendAt (self .receiver) channel ⌝ }
+    {
+        let receiver = self.receiver;
+        receiver.pitch_bend(channel)
+    }
+
+    pub fn pressure(self, channel: u8) -> u8
+        ensures { λ r. ⌜ r ≡ pressureAt (self .receiver) channel ⌝ }
+    {
+        let receiver = self.receiver;
+        receiver.pressure(channel)
+    }
+
+    pub fn brightness(self, channel: u8) -> u8
+        ensures { λ r. ⌜ r ≡ brightnessAt (self .receiver) channel ⌝ }
+    {
+        let receiver = self.receiver;
+        receiver.brightness(channel)
+    }
+
+    // The channel's offset in hundredths of a cent.
+    pub fn pitch_offset(self, channel: u8) -> Offset
+        ensures { λ r. ⌜ offsetRead r ≡ offsetOf (self .receiver) channel ⌝ }
+    {
+        let receiver = self.receiver;
+        receiver.pitch_offset(channel)
+    }
+}

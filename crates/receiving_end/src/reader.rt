@@ -1,0 +1,162 @@
+// The byte reader: running status, and the first data byte of a begun message.
+ghost use mathlib.Core.Path.{_≡_};
+ghost use Prim.Native.Nat.{_/_, _%_};
+ghost use Rattle.ump.specs.Word.{wordOf};
+ghost use Rattle.receiving_end.specs.Reader.{newReader, classOf, secondData, dataStep, classStep, readStep};
+
+// What kind of byte it is (MIDI 1.0, Table I).
+pub enum ByteClass {
+    // 00 to 7F
+    Data,
+    // 80 to EF
+    Status,
+    // F0 to F3, F6, F7
+    Common,
+    // F4, F5, F9, FD
+    Undefined,
+    // F8, FA to FC, FE, FF
+    RealTime,
+}
+
+pub struct Reader {
+    // The running status, 80 to EF, or 0 for none.
+    pub status: u8,
+    // The first data byte of a begun message, or 80 for none.
+    pub first: u8,
+}
+
+// What the reader makes of a byte.
+pub enum Read {
+    Quiet,
+    Dropped,
+    RealTime(u8),
+    Message(u32),
+}
+
+pub struct ReadStep {
+    pub reader: Reader,
+    pub read: Read,
+}
+
+fn class_of(b: u8) -> ByteClass
+    ensures { λ r. ⌜ r ≡ classOf b ⌝ }
+{
+    if b < 0x80 {
+        return ByteClass::Data;
+    }
+    if b < 0xF0 {
+        return ByteClass::Status;
+    }
+    if b < 0xF4 {
+        return ByteClass::Common;
+    }
+    if b < 0xF6 {
+        return ByteClass::Undefined;
+    }
+    if b < 0xF8 {
+        return ByteClass::Common;
+    }
+    if b == 0xF9 {
+        return ByteClass::Undefined;
+    }
+    if b == 0xFD {
+        return ByteClass::Undefined;
+    }
+    ByteClass::RealTime
+}
+
+// The word of a message, with Group 0.
+fn word_of(status: u8, first: u8, second: u8) -> u32
+    ensures { λ r. ⌜ r ≡ wordOf 0 (status / 16) (status % 16) first second ⌝ }
+{
+    0x2000_0000 + status as u32 * 65536 + first as u32 * 256 + second as u32
+}
+
+// A data byte that completes a message, or is its first of two.
+fn data_of_two(status: u8, first: u8, b: u8) -> ReadStep
+    ensures { λ r. ⌜ r ≡ secondData status first b ⌝ }
+{
+    if first < 0x80 {
+        return ReadStep {
+            reader: Reader {
+                status,
+                first: 0x80,
+            },
+            read: Read::Message(word_of(status, first, b)),
+        };
+    }
+    ReadStep {
+        reader: Reader { status, first: b },
+        read: Read::Quiet,
+    }
+}
+
+fn data_byte(status: u8, first: u8, b: u8) -> ReadStep
+    ensures { λ r. ⌜ r ≡ dataStep status first b ⌝ }
+{
+    if status < 0x80 {
+        return ReadStep {
+            reader: Reader { status, first },
+            read: Read::Dropped,
+        };
+    }
+    if status < 0xC0 {
+        return data_of_two(status, first, b);
+    }
+    if status < 0xE0 {
+        return ReadStep {
+            reader: Reader { status, first },
+            read: Read::Message(word_of(status, b, 0)),
+        };
+    }
+    data_of_two(status, first, b)
+}
+
+impl Reader {
+    // No running status, no begun message.
+    pub fn new() -> Reader
+        ensures { λ r. ⌜ r ≡ newReader ⌝ }
+    {
+        Reader {
+            status: 0,
+            first: 0x80,
+        }
+    }
+
+    fn by_class(self, class: ByteClass, b: u8) -> ReadStep
+        ensures { λ r. ⌜ r ≡ classStep self class b ⌝ }
+    {
+        match class {
+            ByteClass::Data => data_byte(self.status, self.first, b),
+            ByteClass::Status => ReadStep {
+                reader: Reader {
+                    status: b,
+                    first: 0x80,
+                },
+                read: Read::Quiet,
+            },
+            ByteClass::Common => ReadStep {
+                reader: Reader {
+                    status: 0,
+                    first: 0x80,
+                },
+                read: Read::Dropped,
+            },
+            ByteClass::Undefined => ReadStep {
+                reader: self,
+                read: Read::Dropped,
+            },
+            ByteClass::RealTime => ReadStep {
+                reader: self,
+                read: Read::RealTime(b),
+            },
+        }
+    }
+
+    // One byte.
+    pub fn step(self, b: u8) -> ReadStep
+        ensures { λ r. ⌜ r ≡ readStep self b ⌝ }
+    {
+        self.by_class(class_of(b), b)
+    }
+}
