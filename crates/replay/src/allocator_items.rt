@@ -1,0 +1,79 @@
+// Items 60 to 65: the note allocator.
+use crate::arguments;
+use crate::line::Line;
+use mpe_allocator::MpeNoteAllocator;
+use mpe_allocator::NoteOn;
+use mpe_layout::MpeLayout;
+
+// The allocator after an item, and the answer.
+pub struct AllocatorTold {
+    pub allocator: MpeNoteAllocator,
+    pub line: Line,
+}
+
+// What `note_on` answers.
+fn channel(reply: NoteOn) -> Line {
+    match reply {
+        NoteOn::Channel(channel) => Line::one(channel as u32),
+        NoteOn::OutOfRange => Line::out_of_range(),
+        NoteOn::NoMembers => Line::none(),
+    }
+}
+
+// The counts of sixteen channels, then the same-note option.
+fn reading(allocator: MpeNoteAllocator) -> Line {
+    let mut line = Line::new();
+    let mut c: u8 = 0;
+    while c < 16 {
+        line = line.with_byte(allocator.active_notes(c));
+        c += 1;
+    }
+    line.with_flag(allocator.same_note())
+}
+
+// Answers item 61.
+fn note_on(allocator: MpeNoteAllocator, item: &[u8; 80]) -> AllocatorTold {
+    let layout = MpeLayout {
+        lower: item[1],
+        upper: item[2],
+    };
+    let noted = allocator.note_on(layout, arguments::zone(item[3]), item[4]);
+    let next = noted.allocator;
+    let r = noted.reply;
+    AllocatorTold {
+        allocator: next,
+        line: channel(r),
+    }
+}
+
+// The allocator after an item that answers nothing.
+fn changed(allocator: MpeNoteAllocator, operation: u8, argument: u8) -> MpeNoteAllocator {
+    if operation == 0x60 {
+        return MpeNoteAllocator::new();
+    }
+    if operation == 0x62 {
+        return allocator.note_off(argument);
+    }
+    if operation == 0x63 {
+        return allocator.set_same_note(argument != 0);
+    }
+    allocator.reset()
+}
+
+// Answers the item, on an allocator.
+pub fn answer(allocator: MpeNoteAllocator, item: &[u8; 80]) -> AllocatorTold {
+    let operation = item[0];
+    if operation == 0x61 {
+        return note_on(allocator, item);
+    }
+    if operation == 0x65 {
+        return AllocatorTold {
+            allocator,
+            line: reading(allocator),
+        };
+    }
+    AllocatorTold {
+        allocator: changed(allocator, operation, item[1]),
+        line: Line::new(),
+    }
+}

@@ -1,0 +1,53 @@
+// The arguments of an item, from its bytes.
+use mpe_layout::MpeZone;
+use parameters::Parameter;
+use parameters::ParameterChange;
+use ump::controller::Rpn;
+
+// Two bytes, highest first.
+pub fn two(a: u8, b: u8) -> u16 {
+    (a as u16) << 8 | (b as u16)
+}
+
+// Four bytes, highest first.
+pub fn four(a: u8, b: u8, c: u8, d: u8) -> u32 {
+    (a as u32) << 24 | (b as u32) << 16 | (c as u32) << 8 | (d as u32)
+}
+
+// Four bytes, highest first, as a signed number.
+pub fn signed(a: u8, b: u8, c: u8, d: u8) -> i32 {
+    (a as i32) << 24 | (b as i32) << 16 | (c as i32) << 8 | (d as i32)
+}
+
+// A zone: 0 is Lower, anything else Upper.
+pub fn zone(byte: u8) -> MpeZone {
+    if byte == 0 {
+        return MpeZone::Lower;
+    }
+    MpeZone::Upper
+}
+
+// P, a parameter.
+pub fn parameter(kind: u8, msb: u8, lsb: u8) -> Parameter {
+    if kind == 0 {
+        return Parameter::Registered(Rpn::from_parts(msb, lsb));
+    }
+    if kind == 1 {
+        return Parameter::NonRegistered { msb, lsb };
+    }
+    Parameter::Registered(Rpn::Other { msb, lsb })
+}
+
+// C, a change.
+pub fn change(kind: u8, byte: u8) -> ParameterChange {
+    if kind == 0 {
+        return ParameterChange::DataEntryMsb(byte);
+    }
+    if kind == 1 {
+        return ParameterChange::DataEntryLsb(byte);
+    }
+    if kind == 2 {
+        return ParameterChange::Increment;
+    }
+    ParameterChange::Decrement
+}

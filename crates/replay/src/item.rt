@@ -1,0 +1,171 @@
+// An item of a trace: an operation byte and its arguments.
+use crate::tokens::Place;
+use crate::tokens::Token;
+ghost use Prim.Native.Nat.{_<_, _≤_};
+ghost use lib.ListN.{length as long};
+
+// An item that is being read: how many of its bytes are there, and where its text goes on.
+pub struct Begun {
+    pub count: usize,
+    pub place: Place,
+}
+
+// What has become of an item.
+pub enum Found {
+    More,
+    Whole,
+    Broken,
+}
+
+// An item after a character.
+pub struct Step {
+    pub begun: Begun,
+    pub found: Found,
+}
+
+// An item after a part of the text, and where the rest of the text begins.
+pub struct Part {
+    pub begun: Begun,
+    pub found: Found,
+    pub at: usize,
+}
+
+// The length of an item in bytes, with its operation; 0 for an unknown operation.
+pub fn length(operation: u8) -> usize {
+    match operation {
+        0x00 | 0x06 | 0x34 | 0x36 | 0x39 | 0x40 | 0x43 | 0x60 | 0x64 | 0x65 => 1,
+        0x01 | 0x02 | 0x07 | 0x37 | 0x38 | 0x44 | 0x62 | 0x63 => 2,
+        0x03 | 0x04 | 0x05 | 0x10 | 0x15 | 0x42 | 0x51 | 0x52 => 3,
+        0x12 | 0x13 | 0x14 | 0x32 => 4,
+        0x11 | 0x21 | 0x31 | 0x35 | 0x50 | 0x54 | 0x61 => 5,
+        0x20 | 0x33 | 0x53 => 7,
+        0x30 | 0x55 => 8,
+        0x41 => 11,
+        _ => 0,
+    }
+}
+
+// The length of the buffer that an item asks for is inside its limit.
+fn within_limit(bytes: &[u8; 80]) -> bool {
+    let operation = bytes[0];
+    if operation == 0x53 {
+        return bytes[6] <= 64;
+    }
+    true
+}
+
+// What an item of `count` bytes is.
+fn judged(bytes: &[u8; 80], count: usize) -> Found {
+    let needed = length(bytes[0]);
+    if needed == 0 {
+        return Found::Broken;
+    }
+    if count < needed {
+        return Found::More;
+    }
+    if within_limit(bytes) {
+        return Found::Whole;
+    }
+    Found::Broken
+}
+
+impl Begun {
+    pub fn new() -> Begun {
+        Begun {
+            count: 0,
+            place: Place::Apart,
+        }
+    }
+
+    // The item that begins straight after a whole one.
+    fn next_item() -> Begun {
+        Begun {
+            count: 0,
+            place: Place::Joined,
+        }
+    }
+
+    // The input may end here: in no item and in no pair.
+    pub fn may_end(self) -> bool {
+        if self.count != 0 {
+            return false;
+        }
+        let place = self.place;
+        place.may_end()
+    }
+
+    // The item with one byte more.
+    fn with_byte(self, bytes: &mut [u8; 80], byte: u8) -> Step {
+        let at = self.count;
+        if 80 <= at {
+            return Step {
+                begun: self,
+                found: Found::Broken,
+            };
+        }
+        bytes[at] = byte;
+        Step {
+            begun: Begun {
+                count: at + 1,
+                place: Place::Joined,
+            },
+            found: judged(bytes, at + 1),
+        }
+    }
+
+    // The item after a character.
+    fn after(self, bytes: &mut [u8; 80], c: u8) -> Step {
+        let place = self.place;
+        match place.next(c) {
+            Token::Passed(next) => Step {
+                begun: Begun {
+                    count: self.count,
+                    place: next,
+                },
+                found: Found::More,
+            },
+            Token::Pair(byte) => self.with_byte(bytes, byte),
+            Token::Broken => Step {
+                begun: self,
+                found: Found::Broken,
+            },
+        }
+    }
+
+    // The item after the characters of `text` from `from` on, up to the one that makes it whole or breaks it.
+    pub fn read(self, bytes: &mut [u8; 80], text: &[u8], from: usize) -> Part
+        requires { ⌜ from < long (now text) ⌝ }
+        ensures { λ r. ⌜ from < r .at ⌝ }
+    {
+        let mut begun = self;
+        let mut at = from;
+        while at < text.len() {
+            let step = begun.after(bytes, text[at]);
+            at += 1;
+            begun = step.begun;
+            let found = step.found;
+            match found {
+                Found::More => {}
+                Found::Whole => {
+                    return Part {
+                        begun: Begun::next_item(),
+                        found: Found::Whole,
+                        at,
+                    };
+                }
+                Found::Broken => {
+                    return Part {
+                        begun,
+                        found: Found::Broken,
+                        at,
+                    };
+                }
+            }
+        }
+        Part {
+            begun,
+            found: Found::More,
+            at,
+        }
+    }
+}

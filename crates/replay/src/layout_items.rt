@@ -1,0 +1,80 @@
+// Items 10 to 15: calls of a layout.
+use crate::arguments;
+use crate::line::Line;
+use mpe_layout::Activity;
+use mpe_layout::FoundRole;
+use mpe_layout::LowestMember;
+use mpe_layout::MadeLayout;
+use mpe_layout::Members;
+use mpe_layout::MpeLayout;
+use mpe_layout::MpeRole;
+
+// A layout's member counts.
+fn made(answer: MadeLayout) -> Line {
+    match answer {
+        MadeLayout::Made(layout) => Line::two(layout.lower as u32, layout.upper as u32),
+        MadeLayout::OutOfRange => Line::out_of_range(),
+    }
+}
+
+// The role of a channel.
+fn role(answer: FoundRole) -> Line {
+    match answer {
+        FoundRole::Role(role) => match role {
+            MpeRole::NoZone => Line::one(0),
+            MpeRole::Manager(zone) => Line::one(1).with_zone(zone),
+            MpeRole::Member(zone) => Line::one(2).with_zone(zone),
+        },
+        FoundRole::OutOfRange => Line::out_of_range(),
+    }
+}
+
+// The lowest member of a zone.
+fn lowest(answer: LowestMember) -> Line {
+    match answer {
+        LowestMember::Channel(channel) => Line::one(channel as u32),
+        LowestMember::OutOfRange => Line::out_of_range(),
+        LowestMember::NoMembers => Line::none(),
+    }
+}
+
+// The member count of a zone.
+fn members(answer: Members) -> Line {
+    match answer {
+        Members::Count(count) => Line::one(count as u32),
+        Members::OutOfRange => Line::out_of_range(),
+    }
+}
+
+// Whether a zone has members.
+fn activity(answer: Activity) -> Line {
+    match answer {
+        Activity::Active(is_active) => Line::new().with_flag(is_active),
+        Activity::OutOfRange => Line::out_of_range(),
+    }
+}
+
+// Answers the item.
+pub fn answer(item: &[u8; 80]) -> Line {
+    let operation = item[0];
+    let layout = MpeLayout {
+        lower: item[1],
+        upper: item[2],
+    };
+    if operation == 0x10 {
+        return made(MpeLayout::new(item[1], item[2]));
+    }
+    if operation == 0x11 {
+        return made(layout.with_mcm(arguments::zone(item[3]), item[4]));
+    }
+    if operation == 0x12 {
+        return role(layout.role(item[3]));
+    }
+    if operation == 0x13 {
+        return lowest(layout.lowest_member(arguments::zone(item[3])));
+    }
+    if operation == 0x14 {
+        return members(layout.members(arguments::zone(item[3])));
+    }
+    activity(layout.is_active())
+}

@@ -1,0 +1,134 @@
+// Items 30 to 39: parameter events, their messages, and a channel's parameter state.
+use crate::arguments;
+use crate::line::Line;
+use parameters::MaybeEvent;
+use parameters::Parameter;
+use parameters::ParameterChange;
+use parameters::ParameterEvent;
+use parameters::ParameterState;
+use parameters::Reply;
+use parameters::Selection;
+use parameters::change_message;
+use parameters::select_messages;
+use parameters::value_messages;
+
+// The parameter state after an item, and the answer.
+pub struct ParameterTold {
+    pub state: ParameterState,
+    pub line: Line,
+}
+
+// PARAM.
+fn parameter(line: Line, parameter: Parameter) -> Line {
+    match parameter {
+        Parameter::Registered(rpn) => {
+            let n = rpn.into_parts();
+            line.with(b'R', 0).with_byte(n.msb).with_byte(n.lsb)
+        }
+        Parameter::NonRegistered { msb, lsb } => line.with(b'N', 0).with_byte(msb).with_byte(lsb),
+    }
+}
+
+// C's two numbers.
+fn change(line: Line, change: ParameterChange) -> Line {
+    match change {
+        ParameterChange::DataEntryMsb(byte) => line.with_byte(0).with_byte(byte),
+        ParameterChange::DataEntryLsb(byte) => line.with_byte(1).with_byte(byte),
+        ParameterChange::Increment => line.with_byte(2).with_byte(0),
+        ParameterChange::Decrement => line.with_byte(3).with_byte(0),
+    }
+}
+
+// An event, or none.
+fn event(event: MaybeEvent) -> Line {
+    match event {
+        MaybeEvent::NoEvent => Line::new().with(b'-', 0),
+        MaybeEvent::Event(e) => {
+            let p = e.parameter;
+            let c = e.change;
+            change(parameter(Line::new(), p), c)
+        }
+    }
+}
+
+// What `receive` answers.
+fn reply(reply: Reply) -> Line {
+    match reply {
+        Reply::Heard(e) => event(e),
+        Reply::OutOfRange => Line::out_of_range(),
+    }
+}
+
+// The reading of a channel's parameters, after the cells of `line`.
+pub fn reading(line: Line, rpn_on: bool, nrpn_on: bool, selection: Selection) -> Line {
+    let switches = line.with_flag(rpn_on).with_flag(nrpn_on);
+    match selection {
+        Selection::Nothing => switches.with(b'-', 0),
+        Selection::Selected(selected) => parameter(switches, selected),
+    }
+}
+
+// Answers an item of 30 to 33, which has no state.
+pub fn answer(item: &[u8; 80]) -> Line {
+    let operation = item[0];
+    if operation == 0x30 {
+        let e = ParameterEvent {
+            parameter: arguments::parameter(item[1], item[2], item[3]),
+            change: arguments::change(item[4], item[5]),
+        };
+        return Line::one(e.apply(arguments::two(item[6], item[7])) as u32);
+    }
+    if operation == 0x31 {
+        let p = arguments::parameter(item[2], item[3], item[4]);
+        return Line::of_two_words(select_messages(item[1], p));
+    }
+    if operation == 0x32 {
+        let c = arguments::change(item[2], item[3]);
+        return Line::of_message(change_message(item[1], c));
+    }
+    let p = arguments::parameter(item[2], item[3], item[4]);
+    Line::of_four_words(value_messages(item[1], p, arguments::two(item[5], item[6])))
+}
+
+// The parameter state after an item that answers nothing.
+fn changed(state: ParameterState, operation: u8, on: bool) -> ParameterState {
+    if operation == 0x34 {
+        return ParameterState::new();
+    }
+    if operation == 0x36 {
+        return state.reset_all_controllers();
+    }
+    if operation == 0x37 {
+        return state.set_rpn_reception(on);
+    }
+    state.set_nrpn_reception(on)
+}
+
+// Answers an item of 34 to 39, on a parameter state.
+pub fn state_answer(state: ParameterState, item: &[u8; 80]) -> ParameterTold {
+    let operation = item[0];
+    if operation == 0x35 {
+        let received = state.receive(arguments::four(item[1], item[2], item[3], item[4]));
+        let next = received.state;
+        let r = received.reply;
+        return ParameterTold {
+            state: next,
+            line: reply(r),
+        };
+    }
+    if operation == 0x39 {
+        return ParameterTold {
+            state,
+            line: reading(
+                Line::new(),
+                state.rpn_reception(),
+                state.nrpn_reception(),
+                state.selection(),
+            ),
+        };
+    }
+    ParameterTold {
+        state: changed(state, operation, item[1] != 0),
+        line: Line::new(),
+    }
+}

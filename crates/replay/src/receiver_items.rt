@@ -1,0 +1,157 @@
+// Items 40 to 44: the receiver of one input.
+use crate::arguments;
+use crate::line::Line;
+use crate::line::NUMBER;
+use mpe_layout::MpeLayout;
+use mpe_layout::MpeZone;
+use mpe_layout::ResetMask;
+use mpe_pitch::MpeSensitivity;
+use mpe_receiver::MpeEvent;
+use mpe_receiver::MpeReceiver;
+use mpe_receiver::Offset;
+use mpe_receiver::Reply;
+use parameters::MaybeEvent;
+use parameters::ParameterEvent;
+
+// The receiver after an item, and the answer.
+pub struct ReceiverTold {
+    pub receiver: MpeReceiver,
+    pub line: Line,
+}
+
+// EVENT.
+pub fn event(line: Line, event: MpeEvent) -> Line {
+    match event {
+        MpeEvent::NoZone => line.with_byte(0),
+        MpeEvent::Zone { zone, manager } => line.with_byte(1).with_zone(zone).with_flag(manager),
+        MpeEvent::Layout { reset } => line.with_byte(2).with(NUMBER, reset as u32),
+        MpeEvent::Sensitivity { zone, manager } => {
+            line.with_byte(3).with_zone(zone).with_flag(manager)
+        }
+        MpeEvent::Mode { zone } => line.with_byte(4).with_zone(zone),
+        MpeEvent::Ignored => line.with_byte(5),
+    }
+}
+
+// What `receive` answers.
+fn reply(reply: Reply) -> Line {
+    match reply {
+        Reply::Heard(e) => event(Line::new(), e),
+        Reply::OutOfRange => Line::out_of_range(),
+    }
+}
+
+// What `set_layout` answers.
+pub fn mask(answer: ResetMask) -> Line {
+    match answer {
+        ResetMask::Mask(mask) => Line::one(mask as u32),
+        ResetMask::OutOfRange => Line::out_of_range(),
+    }
+}
+
+// The reading of a zone, after the cells of `line`.
+pub fn zone(line: Line, manager: MpeSensitivity, member: MpeSensitivity, mode: u8) -> Line {
+    line.with_byte(manager.semitones)
+        .with_byte(manager.cents)
+        .with_byte(member.semitones)
+        .with_byte(member.cents)
+        .with_byte(mode)
+}
+
+// The reading of a channel's controls.
+pub fn channel(bend: u16, pressure: u8, brightness: u8, offset: Offset) -> Line {
+    let line = Line::three(bend as u32, pressure as u32, brightness as u32);
+    match offset {
+        Offset::Offset(z) => line.with_signed(z),
+        Offset::NoRole => line.with(b'-', 0),
+    }
+}
+
+// The reading of a receiver's zone, after the cells of `line`.
+fn zone_of(line: Line, receiver: MpeReceiver, of: MpeZone) -> Line {
+    zone(
+        line,
+        receiver.sensitivity(of, true),
+        receiver.sensitivity(of, false),
+        receiver.mode(of),
+    )
+}
+
+// The reading of a receiver's zones.
+fn zones_of(receiver: MpeReceiver) -> Line {
+    let layout = receiver.layout();
+    let counts = Line::two(layout.lower as u32, layout.upper as u32);
+    let lower = zone_of(counts, receiver, MpeZone::Lower);
+    zone_of(lower, receiver, MpeZone::Upper)
+}
+
+// The reading of a receiver's channel.
+fn channel_of(receiver: MpeReceiver, c: u8) -> Line {
+    channel(
+        receiver.pitch_bend(c),
+        receiver.pressure(c),
+        receiver.brightness(c),
+        receiver.pitch_offset(c),
+    )
+}
+
+// The event of item 41, if it has one.
+fn event_given(item: &[u8; 80]) -> MaybeEvent {
+    if item[5] == 0 {
+        return MaybeEvent::NoEvent;
+    }
+    MaybeEvent::Event(ParameterEvent {
+        parameter: arguments::parameter(item[6], item[7], item[8]),
+        change: arguments::change(item[9], item[10]),
+    })
+}
+
+// Answers item 41.
+fn receive(receiver: MpeReceiver, item: &[u8; 80]) -> ReceiverTold {
+    let word = arguments::four(item[1], item[2], item[3], item[4]);
+    let received = receiver.receive(word, event_given(item));
+    let next = received.receiver;
+    let r = received.reply;
+    ReceiverTold {
+        receiver: next,
+        line: reply(r),
+    }
+}
+
+// Answers item 42.
+fn set_layout(receiver: MpeReceiver, lower: u8, upper: u8) -> ReceiverTold {
+    let set = receiver.set_layout(MpeLayout { lower, upper });
+    let next = set.receiver;
+    let r = set.reply;
+    ReceiverTold {
+        receiver: next,
+        line: mask(r),
+    }
+}
+
+// Answers the item, on a receiver.
+pub fn answer(receiver: MpeReceiver, item: &[u8; 80]) -> ReceiverTold {
+    let operation = item[0];
+    if operation == 0x40 {
+        return ReceiverTold {
+            receiver: MpeReceiver::new(),
+            line: Line::new(),
+        };
+    }
+    if operation == 0x41 {
+        return receive(receiver, item);
+    }
+    if operation == 0x42 {
+        return set_layout(receiver, item[1], item[2]);
+    }
+    if operation == 0x43 {
+        return ReceiverTold {
+            receiver,
+            line: zones_of(receiver),
+        };
+    }
+    ReceiverTold {
+        receiver,
+        line: channel_of(receiver, item[1]),
+    }
+}

@@ -1,0 +1,123 @@
+// A run over a trace.
+use crate::item::Begun;
+use crate::item::Found;
+use crate::out::Out;
+use crate::sender_items;
+use crate::states::States;
+use libc::STDERR_FILENO;
+
+// The run between two reads: the states, the item that is being read, the output, and whether more is to be read.
+pub struct Run {
+    pub states: States,
+    pub begun: Begun,
+    pub out: Out,
+    pub going: bool,
+}
+
+impl Run {
+    pub fn new() -> Run {
+        Run {
+            states: States::new(),
+            begun: Begun::new(),
+            out: Out::new(),
+            going: true,
+        }
+    }
+
+    // The run, read no further.
+    pub fn stopped(self) -> Run {
+        let mut run = self;
+        run.going = false;
+        run
+    }
+
+    // The run, read no further where a write failed.
+    pub fn while_written(self) -> Run {
+        let out = self.out;
+        if out.well {
+            return self;
+        }
+        self.stopped()
+    }
+
+    // Writes what is left, and says where not all could be written.
+    pub fn finished(self, buffer: &[u8; 4096]) {
+        let out = self.out;
+        let last = out.flush(buffer);
+        if !last.well {
+            io::write_all(
+                STDERR_FILENO,
+                b"replay: standard output cannot be written\n",
+            );
+        }
+    }
+
+    // The run at what cannot be read.
+    fn broken(self, buffer: &mut [u8; 4096]) -> Run {
+        let out = self.out;
+        let mut run = self;
+        let last = out.text(buffer, b"?\n");
+        run.out = last;
+        run.going = false;
+        run
+    }
+
+    // The run at the input's end.
+    pub fn ended(self, buffer: &mut [u8; 4096]) -> Run {
+        let begun = self.begun;
+        if begun.may_end() {
+            return self.stopped();
+        }
+        self.broken(buffer)
+    }
+
+    // Answers item 53, whose call writes words.
+    fn answer_words(self, item: &[u8; 80], buffer: &mut [u8; 4096]) -> Run {
+        let out = self.out;
+        let written = sender_items::zone_answer(out, item, buffer).byte(buffer, b'\n');
+        let mut run = self;
+        run.out = written;
+        run
+    }
+
+    // Answers a whole item.
+    fn answer(self, item: &[u8; 80], buffer: &mut [u8; 4096]) -> Run {
+        if item[0] == 0x53 {
+            return self.answer_words(item, buffer);
+        }
+        let states = self.states;
+        let answered = states.answer(item);
+        let next = answered.states;
+        let line = answered.line;
+        let out = self.out;
+        let written = out.line(buffer, line).byte(buffer, b'\n');
+        let mut run = self;
+        run.states = next;
+        run.out = written;
+        run
+    }
+
+    // Answers the items of `text`.
+    pub fn answer_all(self, text: &[u8], item: &mut [u8; 80], buffer: &mut [u8; 4096]) -> Run {
+        let mut run = self;
+        let mut at = 0;
+        while at < text.len() {
+            let begun = run.begun;
+            let part = begun.read(item, text, at);
+            at = part.at;
+            let next = part.begun;
+            run.begun = next;
+            let found = part.found;
+            match found {
+                Found::More => {}
+                Found::Whole => {
+                    run = run.answer(item, buffer);
+                }
+                Found::Broken => {
+                    return run.broken(buffer);
+                }
+            }
+        }
+        run
+    }
+}

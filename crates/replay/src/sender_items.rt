@@ -1,0 +1,112 @@
+// Items 50 to 55: classes of messages, and the messages of a sender.
+use crate::arguments;
+use crate::line::Line;
+use crate::out::Out;
+use mpe_layout::MpeLayout;
+use mpe_sender::MpeClass;
+use mpe_sender::MpeMessage;
+use mpe_sender::mcm_messages;
+use mpe_sender::mode_message;
+use mpe_sender::mpe_class;
+use mpe_sender::note_messages;
+use mpe_sender::sensitivity_messages;
+use mpe_sender::zone_sensitivity_messages;
+ghost use Prim.Native.Nat.{_≤_};
+
+// The words of a buffer before a call.
+const BEFORE: u32 = 0x2FEF7F7F;
+
+// The kind of message of a number up to 20.
+fn kind(k: u8) -> MpeMessage {
+    match k {
+        0 => MpeMessage::Mcm,
+        1 => MpeMessage::PitchBendSensitivity,
+        2 => MpeMessage::PitchBend,
+        3 => MpeMessage::ChannelPressure,
+        4 => MpeMessage::Brightness,
+        5 => MpeMessage::PolyPressure,
+        6 => MpeMessage::AllSoundOff,
+        7 => MpeMessage::ResetAllControllers,
+        8 => MpeMessage::LocalControl,
+        9 => MpeMessage::AllNotesOff,
+        10 => MpeMessage::OmniOff,
+        11 => MpeMessage::OmniOn,
+        12 => MpeMessage::MonoModeOn,
+        13 => MpeMessage::PolyModeOn,
+        14 => MpeMessage::OtherControlChange,
+        15 => MpeMessage::OtherRpn,
+        16 => MpeMessage::Nrpn,
+        17 => MpeMessage::ProgramChange,
+        18 => MpeMessage::BankSelect,
+        19 => MpeMessage::Note,
+        _ => MpeMessage::System,
+    }
+}
+
+// A class.
+fn class(class: MpeClass) -> Line {
+    match class {
+        MpeClass::Mandatory => Line::one(0),
+        MpeClass::Optional => Line::one(1),
+        MpeClass::Prohibited => Line::one(2),
+    }
+}
+
+// Answers item 50.
+fn class_answer(item: &[u8; 80]) -> Line {
+    if 20 < item[1] {
+        return Line::out_of_range();
+    }
+    class(mpe_class(kind(item[1]), item[2] != 0, item[3] != 0, item[4] != 0))
+}
+
+// Answers an item but 53.
+pub fn answer(item: &[u8; 80]) -> Line {
+    let operation = item[0];
+    if operation == 0x50 {
+        return class_answer(item);
+    }
+    if operation == 0x51 {
+        return Line::of_three_words(mcm_messages(arguments::zone(item[1]), item[2]));
+    }
+    if operation == 0x52 {
+        return Line::of_three_words(sensitivity_messages(item[1], item[2]));
+    }
+    if operation == 0x54 {
+        let layout = MpeLayout {
+            lower: item[1],
+            upper: item[2],
+        };
+        return Line::of_message(mode_message(layout, arguments::zone(item[3]), item[4] != 0));
+    }
+    let bend = arguments::two(item[4], item[5]);
+    Line::of_four_words(note_messages(item[1], item[2], item[3], bend, item[6], item[7]))
+}
+
+// The length of item 53's buffer: an item with a larger one is not answered.
+fn buffer_length(n: u8) -> usize
+    ensures { λ r. ⌜ r ≤ 64 ⌝ }
+{
+    if 64 < n {
+        return 64;
+    }
+    n as usize
+}
+
+// Makes the call of item 53 on a buffer, and writes its answer and the buffer.
+fn zone_into(out: Out, item: &[u8; 80], words: &mut [u32], buffer: &mut [u8; 4096]) -> Out {
+    let layout = MpeLayout {
+        lower: item[1],
+        upper: item[2],
+    };
+    let zone = arguments::zone(item[3]);
+    let written = zone_sensitivity_messages(layout, zone, item[4], item[5], words);
+    out.written(buffer, written).words(buffer, words)
+}
+
+// Answers item 53.
+pub fn zone_answer(out: Out, item: &[u8; 80], buffer: &mut [u8; 4096]) -> Out {
+    let n = buffer_length(item[6]);
+    let mut words = [BEFORE; 64];
+    zone_into(out, item, &mut words[..n], buffer)
+}

@@ -1,0 +1,126 @@
+// The states that a trace works on, and the call of each item.
+use crate::allocator_items;
+use crate::end_items;
+use crate::layout_items;
+use crate::line::Line;
+use crate::parameter_items;
+use crate::pitch_items;
+use crate::receiver_items;
+use crate::sender_items;
+use mpe_allocator::MpeNoteAllocator;
+use mpe_receiver::MpeReceiver;
+use parameters::ParameterState;
+use receiving_end::end::End;
+
+// Each is new at the start.
+pub struct States {
+    pub end: End,
+    pub parameters: ParameterState,
+    pub receiver: MpeReceiver,
+    pub allocator: MpeNoteAllocator,
+}
+
+// The states after an item, and the answer.
+pub struct Answered {
+    pub states: States,
+    pub line: Line,
+}
+
+// The answer of an item that has no state.
+fn answer_plain(item: &[u8; 80]) -> Line {
+    let operation = item[0];
+    if operation < 0x20 {
+        return layout_items::answer(item);
+    }
+    if operation < 0x30 {
+        return pitch_items::answer(item);
+    }
+    if operation < 0x40 {
+        return parameter_items::answer(item);
+    }
+    sender_items::answer(item)
+}
+
+impl States {
+    pub fn new() -> States {
+        States {
+            end: End::new(),
+            parameters: ParameterState::new(),
+            receiver: MpeReceiver::new(),
+            allocator: MpeNoteAllocator::new(),
+        }
+    }
+
+    // Makes the call of an item that leaves the states alone.
+    fn answer_stateless(self, item: &[u8; 80]) -> Answered {
+        Answered {
+            states: self,
+            line: answer_plain(item),
+        }
+    }
+
+    // Makes the call of an item on the end.
+    fn answer_end(self, item: &[u8; 80]) -> Answered {
+        let end = self.end;
+        let told = end_items::answer(end, item);
+        let next = told.end;
+        let line = told.line;
+        let mut states = self;
+        states.end = next;
+        Answered { states, line }
+    }
+
+    // Makes the call of an item on the parameter state.
+    fn answer_parameters(self, item: &[u8; 80]) -> Answered {
+        let parameters = self.parameters;
+        let told = parameter_items::state_answer(parameters, item);
+        let next = told.state;
+        let line = told.line;
+        let mut states = self;
+        states.parameters = next;
+        Answered { states, line }
+    }
+
+    // Makes the call of an item on the receiver.
+    fn answer_receiver(self, item: &[u8; 80]) -> Answered {
+        let receiver = self.receiver;
+        let told = receiver_items::answer(receiver, item);
+        let next = told.receiver;
+        let line = told.line;
+        let mut states = self;
+        states.receiver = next;
+        Answered { states, line }
+    }
+
+    // Makes the call of an item on the allocator.
+    fn answer_allocator(self, item: &[u8; 80]) -> Answered {
+        let allocator = self.allocator;
+        let told = allocator_items::answer(allocator, item);
+        let next = told.allocator;
+        let line = told.line;
+        let mut states = self;
+        states.allocator = next;
+        Answered { states, line }
+    }
+
+    // Makes the call of a whole item.
+    pub fn answer(self, item: &[u8; 80]) -> Answered {
+        let operation = item[0];
+        if operation < 0x10 {
+            return self.answer_end(item);
+        }
+        if operation < 0x34 {
+            return self.answer_stateless(item);
+        }
+        if operation < 0x40 {
+            return self.answer_parameters(item);
+        }
+        if operation < 0x50 {
+            return self.answer_receiver(item);
+        }
+        if operation < 0x60 {
+            return self.answer_stateless(item);
+        }
+        self.answer_allocator(item)
+    }
+}

@@ -1,0 +1,111 @@
+//! Tables small enough to be gone through whole.
+
+use crate::calls::range;
+use crate::items::Items;
+use crate::values::is_legal;
+
+/// Sensitivities for the pitch functions: nothing, the usual ones, those whose range meets exact
+/// halves (40/96, 81/92, 122/88), and the largest.
+const SENSITIVITIES: [[u8; 2]; 13] = [
+    [0, 0],
+    [0, 1],
+    [1, 0],
+    [2, 0],
+    [2, 50],
+    [12, 0],
+    [48, 0],
+    [96, 0],
+    [40, 96],
+    [81, 92],
+    [122, 88],
+    [127, 99],
+    [127, 127],
+];
+
+/// Prints the table `name`; none for a name that is no table.
+pub fn trace(name: &str) -> Option<()> {
+    let mut items = Items::new(u64::MAX);
+    match name {
+        "layouts" => layouts(&mut items),
+        "announcements" => announcements(&mut items),
+        "classes" => classes(&mut items),
+        "pitch" => pitch(&mut items),
+        _ => return None,
+    }
+    Some(())
+}
+
+fn pairs(limit: u8) -> impl Iterator<Item = [u8; 2]> {
+    (0..=limit).flat_map(move |lower| (0..=limit).map(move |upper| [lower, upper]))
+}
+
+/// Items 10 to 15 over every pair, zone, count and channel.
+fn layouts(items: &mut Items) {
+    for [lower, upper] in pairs(17) {
+        items.put(&[0x10, lower, upper]);
+        items.put(&[0x15, lower, upper]);
+        for zone in 0..2 {
+            items.put(&[0x13, lower, upper, zone]);
+            items.put(&[0x14, lower, upper, zone]);
+            for count in 0..=17 {
+                items.put(&[0x11, lower, upper, zone, count]);
+            }
+        }
+        for channel in 0..16 {
+            items.put(&[0x12, lower, upper, channel]);
+        }
+    }
+}
+
+/// Every announcement from every legal layout.
+fn announcements(items: &mut Items) {
+    for [lower, upper] in pairs(15).filter(|layout| is_legal(*layout)) {
+        for (zone, status) in [(0, 0xB0), (1, 0xBF)] {
+            for count in 0..=16 {
+                items.put(&[0x40]);
+                items.put(&[0x42, lower, upper]);
+                // The other zone's sensitivity, so that a zone merely cut is seen to keep its own.
+                let other = if zone == 0 { 0xBF } else { 0xB0 };
+                items.put(&[0x41, 0x20, other, 0x06, 0x05, 1, 0, 0, 0, 0, 5]);
+                items.put(&[0x41, 0x20, status, 0x06, count, 1, 0, 0, 6, 0, count]);
+                items.put(&[0x43]);
+            }
+        }
+    }
+}
+
+/// Every kind with every flag, and the numbers past the last kind.
+fn classes(items: &mut Items) {
+    for kind in (0..=21).chain([128, 255]) {
+        for flags in 0..8 {
+            items.put(&[0x50, kind, flags >> 2, flags >> 1 & 1, flags & 1]);
+        }
+    }
+}
+
+fn bend_value(items: &mut Items, offset: i64, [semitones, cents]: [u8; 2]) {
+    let [a, b, c, d] = (offset as i32).to_be_bytes();
+    items.put(&[0x20, a, b, c, d, semitones, cents]);
+}
+
+/// Every bend as an offset; the offsets on both sides of each step from one bend to the next; and
+/// the limits.
+fn pitch(items: &mut Items) {
+    for sensitivity in SENSITIVITIES {
+        let range = range(sensitivity);
+        for value in 0..=0x3FFFu16 {
+            let [high, low] = value.to_be_bytes();
+            items.put(&[0x21, high, low, sensitivity[0], sensitivity[1]]);
+            let half = 2 * (i64::from(value) - 0x2000) + 1;
+            let step = (half * range).div_euclid(16384);
+            bend_value(items, step, sensitivity);
+            bend_value(items, step + 1, sensitivity);
+        }
+        for offset in [range - 1, range, range + 1, 1, i64::from(i32::MAX)] {
+            bend_value(items, offset, sensitivity);
+            bend_value(items, -offset, sensitivity);
+        }
+        bend_value(items, 0, sensitivity);
+        bend_value(items, i64::from(i32::MIN), sensitivity);
+    }
+}

@@ -1,0 +1,167 @@
+//! Answers as text, by docs/REPLAY.md.
+
+use std::fmt::Display;
+
+use zmidi_io::mpe::{MpeClass, MpeEvent, MpeReceiver, MpeRole, MpeZone};
+use zmidi_io::{Parameter, ParameterChange, ParameterEvent, ParameterState};
+use zmidi_ump::{Channel, Midi1ChannelVoiceMessage, UmpError};
+
+/// Document 01's table of replies that decline.
+pub enum Refusal {
+    OutOfRange,
+    TooSmall { needed: usize, got: usize },
+    None,
+}
+
+/// An answer line, or the refusal that takes its place.
+pub type Answer = Result<String, Refusal>;
+
+impl From<UmpError> for Refusal {
+    fn from(error: UmpError) -> Self {
+        match error {
+            UmpError::OutOfRange => Self::OutOfRange,
+            UmpError::BufferTooSmall { needed, got } => Self::TooSmall { needed, got },
+            other => unreachable!("no call of a trace gives {other}"),
+        }
+    }
+}
+
+pub fn ok() -> Answer {
+    Ok("ok".into())
+}
+
+/// The text of an answer or a refusal.
+pub fn text(answer: Answer) -> String {
+    match answer {
+        Ok(line) => line,
+        Err(Refusal::OutOfRange) => "!1".into(),
+        Err(Refusal::TooSmall { needed, got }) => format!("!2 {needed} {got}"),
+        Err(Refusal::None) => "!3".into(),
+    }
+}
+
+/// An answer or a refusal, then the whole buffer.
+pub fn with_buffer<T: Display>(answer: Result<usize, Refusal>, buffer: &[T]) -> String {
+    let mut line = text(answer.map(|count| count.to_string())) + " :";
+    for element in buffer {
+        line += &format!(" {element}");
+    }
+    line
+}
+
+/// Numbers with one space between.
+pub fn numbers<T: Display>(numbers: impl IntoIterator<Item = T>) -> String {
+    let words: Vec<String> = numbers.into_iter().map(|n| n.to_string()).collect();
+    words.join(" ")
+}
+
+/// The words of messages.
+pub fn words(messages: &[Midi1ChannelVoiceMessage]) -> Answer {
+    Ok(numbers(messages.iter().map(|message| message.into_bits())))
+}
+
+fn zone_number(zone: MpeZone) -> u8 {
+    match zone {
+        MpeZone::Lower => 0,
+        MpeZone::Upper => 1,
+    }
+}
+
+pub fn role(role: MpeRole) -> String {
+    match role {
+        MpeRole::NoZone => "0".into(),
+        MpeRole::Manager(zone) => format!("1 {}", zone_number(zone)),
+        MpeRole::Member(zone) => format!("2 {}", zone_number(zone)),
+    }
+}
+
+/// EVENT.
+pub fn event(event: MpeEvent) -> String {
+    match event {
+        MpeEvent::NoZone => "0".into(),
+        MpeEvent::Zone { zone, manager } => {
+            format!("1 {} {}", zone_number(zone), u8::from(manager))
+        }
+        MpeEvent::Layout { reset } => format!("2 {reset}"),
+        MpeEvent::Sensitivity { zone, manager } => {
+            format!("3 {} {}", zone_number(zone), u8::from(manager))
+        }
+        MpeEvent::Mode { zone } => format!("4 {}", zone_number(zone)),
+        MpeEvent::Ignored => "5".into(),
+    }
+}
+
+/// PARAM.
+pub fn parameter(parameter: Option<Parameter>) -> String {
+    match parameter {
+        None => "-".into(),
+        Some(Parameter::Registered(rpn)) => {
+            let (msb, lsb) = rpn.parts();
+            format!("R {msb} {lsb}")
+        }
+        Some(Parameter::NonRegistered { msb, lsb }) => format!("N {msb} {lsb}"),
+    }
+}
+
+fn change(change: ParameterChange) -> String {
+    match change {
+        ParameterChange::DataEntryMsb(data) => format!("0 {data}"),
+        ParameterChange::DataEntryLsb(data) => format!("1 {data}"),
+        ParameterChange::Increment => "2 0".into(),
+        ParameterChange::Decrement => "3 0".into(),
+    }
+}
+
+pub fn parameter_event(event: Option<ParameterEvent>) -> String {
+    match event {
+        None => "-".into(),
+        Some(event) => parameter(Some(event.parameter)) + " " + &change(event.change),
+    }
+}
+
+/// The reading of a parameter state.
+pub fn parameters(state: &ParameterState) -> String {
+    format!(
+        "{} {} {}",
+        u8::from(state.rpn_reception()),
+        u8::from(state.nrpn_reception()),
+        parameter(state.selection())
+    )
+}
+
+/// The reading of a receiver's zones.
+pub fn zones(receiver: &MpeReceiver) -> String {
+    let layout = receiver.layout();
+    let zones = [MpeZone::Lower, MpeZone::Upper];
+    let mut reading = zones.map(|zone| layout.members(zone)).to_vec();
+    for zone in zones {
+        for manager in [true, false] {
+            let sensitivity = receiver.sensitivity(zone, manager);
+            reading.extend([sensitivity.semitones, sensitivity.cents]);
+        }
+        reading.push(receiver.mode(zone));
+    }
+    numbers(reading)
+}
+
+/// The reading of a receiver's channel.
+pub fn channel(receiver: &MpeReceiver, channel: Channel) -> String {
+    let offset = match receiver.pitch_offset(channel) {
+        Some(offset) => offset.to_string(),
+        None => "-".into(),
+    };
+    format!(
+        "{} {} {} {offset}",
+        receiver.pitch_bend(channel),
+        receiver.pressure(channel),
+        receiver.brightness(channel)
+    )
+}
+
+pub fn class(class: MpeClass) -> String {
+    match class {
+        MpeClass::Mandatory => "0".into(),
+        MpeClass::Optional => "1".into(),
+        MpeClass::Prohibited => "2".into(),
+    }
+}

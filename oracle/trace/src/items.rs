@@ -1,0 +1,352 @@
+//! The items of a trace and their calls, in the order of docs/REPLAY.md.
+
+use crate::answer::{self, numbers, ok, with_buffer, words, Answer, Refusal};
+use crate::arguments::Arguments;
+use crate::end::{End, Reply};
+use crate::restatement::put;
+use zmidi_io::mpe::{
+    self, mpe_class, MpeLayout, MpeMessage, MpeNoteAllocator, MpeReceiver, MpeZone,
+};
+use zmidi_io::parameters::{change_message, select_messages, value_messages};
+use zmidi_io::ParameterState;
+use zmidi_ump::{Channel, Midi1ChannelVoiceMessage};
+
+/// The length of P, C and S in bytes.
+const P: usize = 3;
+const C: usize = 2;
+const S: usize = 2 + 2 * 3 + 16 * 4;
+
+/// What a buffer of words and a buffer of bytes hold before a call.
+const WORD_BEFORE: u32 = 0x2FEF_7F7F;
+const BYTE_BEFORE: u8 = 0xA5;
+
+/// The message kinds in upstream's order.
+const KINDS: [MpeMessage; 21] = [
+    MpeMessage::Mcm,
+    MpeMessage::PitchBendSensitivity,
+    MpeMessage::PitchBend,
+    MpeMessage::ChannelPressure,
+    MpeMessage::Brightness,
+    MpeMessage::PolyPressure,
+    MpeMessage::AllSoundOff,
+    MpeMessage::ResetAllControllers,
+    MpeMessage::LocalControl,
+    MpeMessage::AllNotesOff,
+    MpeMessage::OmniOff,
+    MpeMessage::OmniOn,
+    MpeMessage::MonoModeOn,
+    MpeMessage::PolyModeOn,
+    MpeMessage::OtherControlChange,
+    MpeMessage::OtherRpn,
+    MpeMessage::Nrpn,
+    MpeMessage::ProgramChange,
+    MpeMessage::BankSelect,
+    MpeMessage::Note,
+    MpeMessage::System,
+];
+
+/// The length of an operation's arguments, or none for an unknown operation.
+pub fn length(operation: u8) -> Option<usize> {
+    Some(match operation {
+        0x00 | 0x06 | 0x34 | 0x36 | 0x39 | 0x40 | 0x43 | 0x60 | 0x64 | 0x65 => 0,
+        0x01 | 0x02 | 0x07 | 0x37 | 0x38 | 0x44 | 0x62 | 0x63 => 1,
+        0x03 | 0x04 | 0x05 | 0x10 | 0x15 | 0x42 | 0x51 | 0x52 => 2,
+        0x12..=0x14 => 3,
+        0x11 | 0x21 | 0x35 | 0x50 | 0x54 | 0x61 => 4,
+        0x20 | 0x53 => 6,
+        0x55 => 7,
+        0x30 => P + C + 2,
+        0x31 => 1 + P,
+        0x32 => 1 + C,
+        0x33 => 1 + P + 2,
+        0x41 => 4 + 1 + P + C,
+        0x70 | 0x71 => S + 2,
+        0x72 => S,
+        _ => return None,
+    })
+}
+
+/// An operation that takes a buffer's length has it last; the length stays inside its limit.
+pub fn within_limit(operation: u8, bytes: &[u8]) -> bool {
+    match (operation, bytes) {
+        (0x53, [.., n]) => *n <= 64,
+        (0x70, [.., high, low]) => u16::from_be_bytes([*high, *low]) <= 1024,
+        (0x71, [.., high, low]) => u16::from_be_bytes([*high, *low]) <= 256,
+        _ => true,
+    }
+}
+
+/// The four states that a trace works on.
+pub struct States {
+    end: End,
+    parameters: ParameterState,
+    receiver: MpeReceiver,
+    allocator: MpeNoteAllocator,
+}
+
+impl States {
+    pub fn new() -> Self {
+        Self {
+            end: End::new(),
+            parameters: ParameterState::new(),
+            receiver: MpeReceiver::new(),
+            allocator: MpeNoteAllocator::new(),
+        }
+    }
+
+    /// Makes the call of one item and gives its answer line.
+    pub fn answer(&mut self, operation: u8, arguments: &mut Arguments) -> String {
+        match operation {
+            0x53 => zone_sensitivity_item(arguments),
+            0x70 => restatement_bytes_item(arguments),
+            0x71 => restatement_words_item(arguments),
+            _ => answer::text(self.plain_answer(operation, arguments)),
+        }
+    }
+
+    fn plain_answer(&mut self, operation: u8, arguments: &mut Arguments) -> Answer {
+        match operation {
+            0x00..=0x0F | 0x72 => self.end_item(operation, arguments),
+            0x10..=0x1F => layout_item(operation, arguments),
+            0x20..=0x2F => pitch_item(operation, arguments),
+            0x30..=0x33 => parameter_item(operation, arguments),
+            0x34..=0x3F => self.parameters_item(operation, arguments),
+            0x40..=0x4F => self.receiver_item(operation, arguments),
+            0x50..=0x5F => sender_item(operation, arguments),
+            0x60..=0x6F => self.allocator_item(operation, arguments),
+            _ => unreachable!("an unknown operation has no length"),
+        }
+    }
+
+    fn end_item(&mut self, operation: u8, arguments: &mut Arguments) -> Answer {
+        let end = &mut self.end;
+        match operation {
+            0x00 => *end = End::new(),
+            0x01 | 0x02 => return Ok(reply(end.byte(arguments.byte()))),
+            0x03 => return set_layout(&mut end.receiver, arguments),
+            0x04 => {
+                let channel = arguments.channel();
+                end.parameters(channel).set_rpn_reception(arguments.flag());
+            }
+            0x05 => {
+                let channel = arguments.channel();
+                end.parameters(channel).set_nrpn_reception(arguments.flag());
+            }
+            0x06 => return Ok(answer::zones(&end.receiver)),
+            0x07 => return Ok(end_channel(end, arguments.channel())),
+            0x72 => restate(end, arguments),
+            _ => unreachable!("an unknown operation has no length"),
+        }
+        ok()
+    }
+
+    fn parameters_item(&mut self, operation: u8, arguments: &mut Arguments) -> Answer {
+        let state = &mut self.parameters;
+        match operation {
+            0x34 => *state = ParameterState::new(),
+            0x35 => {
+                let message = arguments.message()?;
+                return Ok(answer::parameter_event(state.receive(&message)));
+            }
+            0x36 => state.reset_all_controllers(),
+            0x37 => state.set_rpn_reception(arguments.flag()),
+            0x38 => state.set_nrpn_reception(arguments.flag()),
+            0x39 => return Ok(answer::parameters(state)),
+            _ => unreachable!("an unknown operation has no length"),
+        }
+        ok()
+    }
+
+    fn receiver_item(&mut self, operation: u8, arguments: &mut Arguments) -> Answer {
+        let receiver = &mut self.receiver;
+        match operation {
+            0x40 => *receiver = MpeReceiver::new(),
+            0x41 => {
+                let message = arguments.message()?;
+                let given = arguments.flag();
+                let event = given.then_some(arguments.event());
+                return Ok(answer::event(receiver.receive(&message, event)));
+            }
+            0x42 => return set_layout(receiver, arguments),
+            0x43 => return Ok(answer::zones(receiver)),
+            0x44 => return Ok(answer::channel(receiver, arguments.channel())),
+            _ => unreachable!("an unknown operation has no length"),
+        }
+        ok()
+    }
+
+    fn allocator_item(&mut self, operation: u8, arguments: &mut Arguments) -> Answer {
+        let allocator = &mut self.allocator;
+        match operation {
+            0x60 => *allocator = MpeNoteAllocator::new(),
+            0x61 => {
+                let layout = arguments.layout()?;
+                let (zone, note) = (arguments.zone(), arguments.byte());
+                return channel_or_none(allocator.note_on(layout, zone, note));
+            }
+            0x62 => allocator.note_off(arguments.channel()),
+            0x63 => allocator.set_same_note(arguments.flag()),
+            0x64 => allocator.reset(),
+            0x65 => return Ok(allocator_reading(allocator)),
+            _ => unreachable!("an unknown operation has no length"),
+        }
+        ok()
+    }
+}
+
+fn reply(reply: Reply) -> String {
+    match reply {
+        Reply::Quiet => "0".into(),
+        Reply::Dropped => "1".into(),
+        Reply::RealTime(byte) => format!("2 {byte}"),
+        Reply::Message(word, event) => format!("3 {word} {}", answer::event(event)),
+    }
+}
+
+fn set_layout(receiver: &mut MpeReceiver, arguments: &mut Arguments) -> Answer {
+    let layout = arguments.layout()?;
+    Ok(receiver.set_layout(layout).to_string())
+}
+
+fn end_channel(end: &mut End, channel: Channel) -> String {
+    let controls = answer::channel(&end.receiver, channel);
+    controls + " " + &answer::parameters(end.parameters(channel))
+}
+
+/// Gives the end a restatement, byte by byte; settings that are refused leave it alone.
+fn restate(end: &mut End, arguments: &mut Arguments) {
+    for byte in arguments.settings().bytes().unwrap_or_default() {
+        end.byte(byte);
+    }
+}
+
+fn layout_item(operation: u8, arguments: &mut Arguments) -> Answer {
+    let layout = arguments.layout()?;
+    match operation {
+        0x10 => Ok(member_counts(layout)),
+        0x11 => {
+            let (zone, members) = (arguments.zone(), arguments.byte());
+            Ok(member_counts(layout.with_mcm(zone, members)))
+        }
+        0x12 => Ok(answer::role(layout.role(arguments.channel()))),
+        0x13 => channel_or_none(layout.lowest_member(arguments.zone())),
+        0x14 => Ok(layout.members(arguments.zone()).to_string()),
+        0x15 => Ok(u8::from(layout.is_active()).to_string()),
+        _ => unreachable!("an unknown operation has no length"),
+    }
+}
+
+fn member_counts(layout: MpeLayout) -> String {
+    numbers([MpeZone::Lower, MpeZone::Upper].map(|zone| layout.members(zone)))
+}
+
+fn channel_or_none(channel: Option<Channel>) -> Answer {
+    let channel = channel.ok_or(Refusal::None)?;
+    Ok(channel.index().to_string())
+}
+
+fn pitch_item(operation: u8, arguments: &mut Arguments) -> Answer {
+    match operation {
+        0x20 => {
+            let offset = arguments.four() as i32;
+            Ok(mpe::pitch_bend_value(offset, arguments.sensitivity()).to_string())
+        }
+        0x21 => {
+            let value = arguments.two();
+            Ok(mpe::pitch_offset(value, arguments.sensitivity()).to_string())
+        }
+        _ => unreachable!("an unknown operation has no length"),
+    }
+}
+
+fn parameter_item(operation: u8, arguments: &mut Arguments) -> Answer {
+    match operation {
+        0x30 => {
+            let event = arguments.event();
+            Ok(event.apply(arguments.two()).to_string())
+        }
+        0x31 => {
+            let channel = arguments.channel();
+            words(&select_messages(channel, arguments.parameter())?)
+        }
+        0x32 => {
+            let channel = arguments.channel();
+            words(&[change_message(channel, arguments.change())?])
+        }
+        0x33 => {
+            let (channel, parameter) = (arguments.channel(), arguments.parameter());
+            words(&value_messages(channel, parameter, arguments.two())?)
+        }
+        _ => unreachable!("an unknown operation has no length"),
+    }
+}
+
+fn sender_item(operation: u8, arguments: &mut Arguments) -> Answer {
+    match operation {
+        0x50 => {
+            let kind = KINDS.get(usize::from(arguments.byte()));
+            let kind = *kind.ok_or(Refusal::OutOfRange)?;
+            let (manager, transmit, mono) = (arguments.flag(), arguments.flag(), arguments.flag());
+            Ok(answer::class(mpe_class(kind, manager, transmit, mono)))
+        }
+        0x51 => {
+            let zone = arguments.zone();
+            words(&mpe::mcm_messages(zone, arguments.byte())?)
+        }
+        0x52 => {
+            let channel = arguments.channel();
+            words(&mpe::sensitivity_messages(channel, arguments.byte())?)
+        }
+        0x54 => {
+            let layout = arguments.layout()?;
+            let zone = arguments.zone();
+            words(&[mpe::mode_message(layout, zone, arguments.flag())?])
+        }
+        0x55 => note_item(arguments),
+        _ => unreachable!("an unknown operation has no length"),
+    }
+}
+
+fn note_item(arguments: &mut Arguments) -> Answer {
+    let channel = arguments.channel();
+    let (note, velocity, bend) = (arguments.byte(), arguments.byte(), arguments.two());
+    let (brightness, pressure) = (arguments.byte(), arguments.byte());
+    words(&mpe::note_messages(
+        channel, note, velocity, bend, brightness, pressure,
+    )?)
+}
+
+fn zone_sensitivity_item(arguments: &mut Arguments) -> String {
+    let (layout, zone) = (arguments.layout(), arguments.zone());
+    let (manager, member) = (arguments.byte(), arguments.byte());
+    let before = Midi1ChannelVoiceMessage::parse(&[WORD_BEFORE]).expect("it is a message");
+    let mut buffer = vec![before; usize::from(arguments.byte())];
+    let answer = layout.and_then(|layout| {
+        mpe::zone_sensitivity_messages(layout, zone, manager, member, &mut buffer)
+            .map_err(Refusal::from)
+    });
+    let words: Vec<u32> = buffer
+        .into_iter()
+        .map(|message| message.into_bits())
+        .collect();
+    with_buffer(answer, &words)
+}
+
+fn restatement_bytes_item(arguments: &mut Arguments) -> String {
+    let bytes = arguments.settings().bytes();
+    let mut buffer = vec![BYTE_BEFORE; usize::from(arguments.two())];
+    let answer = bytes.and_then(|bytes| put(&bytes, &mut buffer));
+    with_buffer(answer, &buffer)
+}
+
+fn restatement_words_item(arguments: &mut Arguments) -> String {
+    let words = arguments.settings().words();
+    let mut buffer = vec![WORD_BEFORE; usize::from(arguments.two())];
+    let answer = words.and_then(|words| put(&words, &mut buffer));
+    with_buffer(answer, &buffer)
+}
+
+fn allocator_reading(allocator: &MpeNoteAllocator) -> String {
+    let counts = (0..16).map(|channel| allocator.active_notes(Channel::from_bits(channel)));
+    numbers(counts.chain([u8::from(allocator.same_note())]))
+}

@@ -1,0 +1,65 @@
+//! Answers a trace (docs/REPLAY.md) by the Rust: reads items from a text, makes each call on
+//! upstream's own code, and writes one answer line for each.
+
+mod answer;
+mod arguments;
+mod end;
+mod items;
+mod pairs;
+mod reader;
+mod restatement;
+
+use std::io::{self, Read, Write};
+
+use arguments::Arguments;
+use items::States;
+use pairs::{Next, Pairs};
+
+/// What the input has next.
+enum Item {
+    Call(u8, Arguments),
+    End,
+    Broken,
+}
+
+/// Reads one item: an operation byte and its arguments.
+fn next_item(pairs: &mut Pairs<impl Read>) -> io::Result<Item> {
+    let operation = match pairs.next()? {
+        Next::Pair(operation) => operation,
+        Next::End => return Ok(Item::End),
+        Next::Broken => return Ok(Item::Broken),
+    };
+    let Some(length) = items::length(operation) else {
+        return Ok(Item::Broken);
+    };
+    let mut bytes = Vec::with_capacity(length);
+    while bytes.len() < length {
+        match pairs.next()? {
+            Next::Pair(byte) => bytes.push(byte),
+            Next::End | Next::Broken => return Ok(Item::Broken),
+        }
+    }
+    if !items::within_limit(operation, &bytes) {
+        return Ok(Item::Broken);
+    }
+    Ok(Item::Call(operation, Arguments::new(bytes)))
+}
+
+/// Answers every item of `input`, in order. What cannot be read ends the run with `?`.
+pub fn run(input: impl Read, output: &mut impl Write) -> io::Result<()> {
+    let mut pairs = Pairs::new(input);
+    let mut states = States::new();
+    loop {
+        match next_item(&mut pairs)? {
+            Item::Call(operation, mut arguments) => {
+                writeln!(output, "{}", states.answer(operation, &mut arguments))?
+            }
+            Item::End => break,
+            Item::Broken => {
+                writeln!(output, "?")?;
+                break;
+            }
+        }
+    }
+    output.flush()
+}

@@ -1,0 +1,192 @@
+//! The bench examples of document 01, and the form of the input.
+
+/// The answers to a trace.
+fn answers(trace: &str) -> String {
+    let mut output = Vec::new();
+    trace::run(trace.as_bytes(), &mut output).expect("a text is read and written");
+    String::from_utf8(output).expect("answers are text")
+}
+
+/// Holds each item to its answer line; all are of one trace.
+fn hold(items: &[(&str, &str)]) {
+    let trace: Vec<&str> = items.iter().map(|(item, _)| *item).collect();
+    let answers = answers(&trace.join("\n"));
+    for ((item, expected), answer) in items.iter().zip(answers.lines()) {
+        assert_eq!(answer, *expected, "the answer to {item}");
+    }
+    assert_eq!(answers.lines().count(), items.len());
+}
+
+/// Items that give the end each byte.
+fn bytes(bytes: &str) -> String {
+    bytes
+        .split(' ')
+        .map(|byte| format!("01 {byte}\n"))
+        .collect()
+}
+
+/// A settings record: a layout, both zones 2, 48, mode 3, and every channel at rest.
+fn settings(layout: &str) -> String {
+    format!("{layout} 02 30 03 02 30 03 {}", "20 00 00 40 ".repeat(16))
+}
+
+#[test]
+fn layouts() {
+    hold(&[
+        ("10 0D 01", "13 1"),
+        ("10 0F 00", "15 0"),
+        ("10 07 07", "7 7"),
+        ("10 08 07", "!1"),
+        ("10 0E 01", "!1"),
+        ("10 10 00", "!1"),
+        ("11 07 07 00 0A", "10 4"),
+        ("11 07 07 00 0E", "14 0"),
+        ("11 07 07 01 00", "7 0"),
+        ("11 07 07 00 10", "7 7"),
+        ("12 0F 00 0F", "2 0"),
+        ("13 00 03 00", "!3"),
+        ("13 00 03 01", "12"),
+    ]);
+}
+
+#[test]
+fn pitch() {
+    hold(&[
+        ("20 00 00 27 10 02 00", "12288"),
+        ("20 00 00 4E 1F 02 00", "16383"),
+        ("20 FF FF B1 E1 02 00", "0"),
+        ("21 00 00 30 00", "-480059"),
+        ("21 3F FF 30 00", "480000"),
+        ("21 30 00 30 00", "240029"),
+        ("20 00 00 00 19 28 60", "8193"),
+        ("20 FF FF FF E7 28 60", "8191"),
+        ("20 80 00 00 00 02 00", "0"),
+        ("20 80 00 00 00 00 00", "8192"),
+    ]);
+}
+
+#[test]
+fn steps_of_rpn_0() {
+    // 2/98 up, 2/110 up, 3/0 down, 2/110 down.
+    hold(&[
+        ("30 00 00 00 02 00 01 62", "355"),
+        ("30 00 00 00 02 00 01 6E", "384"),
+        ("30 00 00 00 03 00 01 80", "355"),
+        ("30 00 00 00 03 00 01 6E", "365"),
+    ]);
+}
+
+#[test]
+fn senders() {
+    let before = " 804224895".repeat(11);
+    hold(&[
+        ("55 00 3C 00 20 00 40 00", "!1"),
+        (
+            "55 00 3C 01 20 00 40 00",
+            "551551040 548424256 550502400 546323457",
+        ),
+        ("53 03 00 00 02 30 0B", &format!("!2 12 11 :{before}")),
+        ("53 03 00 01 02 30 0B", &format!("!1 :{before}")),
+        ("53 03 00 01 02 30 00", "!1 :"),
+        ("50 14 01 01 00", "1"),
+        ("50 15 01 01 00", "!1"),
+        ("61 00 00 00 3C", "!3"),
+        ("61 00 10 01 3C", "!1"),
+    ]);
+}
+
+#[test]
+fn restatement_sizes() {
+    for (layout, messages, length) in [
+        ("00 00", 108, 308),
+        ("07 07", 158, 458),
+        ("0F 00", 157, 455),
+    ] {
+        let record = settings(layout);
+        let as_bytes = answers(&format!("70 {record} 04 00"));
+        let as_words = answers(&format!("71 {record} 01 00"));
+        assert!(as_bytes.starts_with(&format!("{length} : 176 121 0 ")));
+        assert!(as_words.starts_with(&format!("{messages} : ")));
+        let short = answers(&format!("70 {record} 00 01"));
+        assert_eq!(short, format!("!2 {length} 1 : 165\n"));
+    }
+}
+
+#[test]
+fn a_restatement_is_shown() {
+    let played = bytes("B0 65 00 64 06 06 05 E0 01 02 D3 07 B1 4A 11 63 05");
+    let record = "03 02 05 07 04 60 00 03 ".to_string() + &"12 34 05 06 ".repeat(16);
+    let answers = answers(&format!("{played} 72 {record} 06 07 09"));
+    let last: Vec<&str> = answers.lines().rev().take(3).collect();
+    assert_eq!(last[2], "ok");
+    assert_eq!(last[1], "3 2 5 0 7 0 4 96 0 0 0 3");
+    assert_eq!(last[0], "4660 5 6 - 1 0 -");
+}
+
+#[test]
+fn the_offsets_example() {
+    let read: String = (0..16)
+        .map(|channel| format!("07 {channel:02X}\n"))
+        .collect();
+    let answers = answers(&(bytes("B0 65 00 64 06 06 02 E1 00 60") + &read));
+    let offsets: Vec<&str> = answers
+        .lines()
+        .skip(10)
+        .map(|line| line.split(' ').nth(3).expect("a channel has an offset"))
+        .collect();
+    assert_eq!(offsets[..3], ["0", "240029", "0"]);
+    assert_eq!(offsets[3..], ["-"; 13]);
+}
+
+#[test]
+fn bytes_of_every_class() {
+    let all: String = (0..=255)
+        .map(|byte| format!("00 01 90 01 3C 01 {byte:02X}\n"))
+        .collect();
+    let answers = answers(&all);
+    let replies: Vec<&str> = answers.lines().skip(3).step_by(4).collect();
+    assert_eq!(replies[0x40], "3 546323520 0");
+    assert_eq!((replies[0x80], replies[0xEF]), ("0", "0"));
+    for byte in [0xF0, 0xF1, 0xF2, 0xF3, 0xF4, 0xF5, 0xF6, 0xF7, 0xF9, 0xFD] {
+        assert_eq!(replies[byte], "1");
+    }
+    for byte in [0xF8, 0xFA, 0xFB, 0xFC, 0xFE, 0xFF] {
+        assert_eq!(replies[byte], format!("2 {byte}"));
+    }
+}
+
+#[test]
+fn words_need_the_word_form() {
+    hold(&[
+        ("35 20 B0 65 00", "-"),
+        ("35 2F B0 64 00", "-"),
+        ("39", "1 0 R 0 0"),
+        ("35 20 B0 E5 00", "!1"),
+        ("35 20 B0 65 80", "!1"),
+        ("35 10 B0 65 00", "!1"),
+        ("35 20 70 65 00", "!1"),
+        ("35 20 F0 65 00", "!1"),
+        ("35 20 C0 65 01", "!1"),
+        ("35 20 C0 65 00", "-"),
+        ("41 20 D0 65 01 00 00 00 00 00 00", "!1"),
+    ]);
+}
+
+#[test]
+fn what_cannot_be_read_ends_the_run() {
+    for (trace, expected) in [
+        ("", ""),
+        ("# a comment", ""),
+        ("00#\n60#\r64 ", "ok\nok\nok\n"),
+        ("00 0", "ok\n?\n"),
+        ("00 0 00", "ok\n?\n"),
+        ("00 3a", "ok\n?\n"),
+        ("01\t", "?\n"),
+        ("01 9", "?\n"),
+        ("01", "?\n"),
+        ("53 03 00 00 02 30 41", "?\n"),
+        ("00 09 00", "ok\n?\n"),
+    ] {
+        assert_eq!(answers(trace), expected, "the answers to {trace:?}");
+    }
+}
