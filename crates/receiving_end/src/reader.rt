@@ -2,7 +2,7 @@
 ghost use mathlib.Core.Path.{_≡_};
 ghost use Prim.Native.Nat.{_/_, _%_};
 ghost use Rattle.ump.specs.Word.{wordOf};
-ghost use Rattle.receiving_end.specs.Reader.{newReader, classOf, secondData, dataStep, classStep, readStep};
+ghost use Rattle.receiving_end.specs.Reader.{newReader, readerAt, reading as readAs, classOf, secondData, dataStep, classStep, readStep};
 
 // What kind of byte it is (MIDI 1.0, Table I).
 pub enum ByteClass {
@@ -65,6 +65,16 @@ fn class_of(b: u8) -> ByteClass
     ByteClass::RealTime
 }
 
+// What was read, and a reader with this running status and first data byte.
+fn reading(status: u8, first: u8, read: Read) -> ReadStep
+    ensures { λ r. ⌜ r ≡ readAs (readerAt status first) read ⌝ }
+{
+    ReadStep {
+        reader: Reader { status, first },
+        read,
+    }
+}
+
 // The word of a message, with Group 0.
 fn word_of(status: u8, first: u8, second: u8) -> u32
     ensures { λ r. ⌜ r ≡ wordOf 0 (status / 16) (status % 16) first second ⌝ }
@@ -77,37 +87,22 @@ fn data_of_two(status: u8, first: u8, b: u8) -> ReadStep
     ensures { λ r. ⌜ r ≡ secondData status first b ⌝ }
 {
     if first < 0x80 {
-        return ReadStep {
-            reader: Reader {
-                status,
-                first: 0x80,
-            },
-            read: Read::Message(word_of(status, first, b)),
-        };
+        return reading(status, 0x80, Read::Message(word_of(status, first, b)));
     }
-    ReadStep {
-        reader: Reader { status, first: b },
-        read: Read::Quiet,
-    }
+    reading(status, b, Read::Quiet)
 }
 
 fn data_byte(status: u8, first: u8, b: u8) -> ReadStep
     ensures { λ r. ⌜ r ≡ dataStep status first b ⌝ }
 {
     if status < 0x80 {
-        return ReadStep {
-            reader: Reader { status, first },
-            read: Read::Dropped,
-        };
+        return reading(status, first, Read::Dropped);
     }
     if status < 0xC0 {
         return data_of_two(status, first, b);
     }
     if status < 0xE0 {
-        return ReadStep {
-            reader: Reader { status, first },
-            read: Read::Message(word_of(status, b, 0)),
-        };
+        return reading(status, first, Read::Message(word_of(status, b, 0)));
     }
     data_of_two(status, first, b)
 }
@@ -128,28 +123,10 @@ impl Reader {
     {
         match class {
             ByteClass::Data => data_byte(self.status, self.first, b),
-            ByteClass::Status => ReadStep {
-                reader: Reader {
-                    status: b,
-                    first: 0x80,
-                },
-                read: Read::Quiet,
-            },
-            ByteClass::Common => ReadStep {
-                reader: Reader {
-                    status: 0,
-                    first: 0x80,
-                },
-                read: Read::Dropped,
-            },
-            ByteClass::Undefined => ReadStep {
-                reader: self,
-                read: Read::Dropped,
-            },
-            ByteClass::RealTime => ReadStep {
-                reader: self,
-                read: Read::RealTime(b),
-            },
+            ByteClass::Status => reading(b, 0x80, Read::Quiet),
+            ByteClass::Common => reading(0, 0x80, Read::Dropped),
+            ByteClass::Undefined => reading(self.status, self.first, Read::Dropped),
+            ByteClass::RealTime => reading(self.status, self.first, Read::RealTime(b)),
         }
     }
 

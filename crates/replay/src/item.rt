@@ -1,4 +1,5 @@
 // An item of a trace: an operation byte and its arguments.
+use crate::arguments;
 use crate::tokens::Place;
 use crate::tokens::Token;
 ghost use Prim.Native.Nat.{_<_, _≤_};
@@ -41,6 +42,8 @@ pub fn length(operation: u8) -> usize {
         0x20 | 0x33 | 0x53 => 7,
         0x30 | 0x55 => 8,
         0x41 => 11,
+        0x72 => 73,
+        0x70 | 0x71 => 75,
         _ => 0,
     }
 }
@@ -50,6 +53,12 @@ fn within_limit(bytes: &[u8; 80]) -> bool {
     let operation = bytes[0];
     if operation == 0x53 {
         return bytes[6] <= 64;
+    }
+    if operation == 0x70 {
+        return arguments::two(bytes[73], bytes[74]) <= 1024;
+    }
+    if operation == 0x71 {
+        return arguments::two(bytes[73], bytes[74]) <= 256;
     }
     true
 }

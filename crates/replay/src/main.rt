@@ -10,6 +10,7 @@ mod out;
 mod parameter_items;
 mod pitch_items;
 mod receiver_items;
+mod restatement_items;
 mod run;
 mod sender_items;
 mod states;

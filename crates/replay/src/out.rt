@@ -141,4 +141,20 @@ impl Out {
         }
         out
     }
+
+    // A space and a byte as a number.
+    fn small(self, buffer: &mut [u8; 4096], b: u8) -> Out {
+        self.word(buffer, b as u32)
+    }
+
+    // A colon and the bytes of a buffer, a space before each.
+    pub fn bytes(self, buffer: &mut [u8; 4096], bytes: &[u8]) -> Out {
+        let mut out = self.text(buffer, b" :");
+        let mut i = 0;
+        while i < bytes.len() {
+            out = out.small(buffer, bytes[i]);
+            i += 1;
+        }
+        out
+    }
 }

@@ -2,6 +2,7 @@
 use crate::item::Begun;
 use crate::item::Found;
 use crate::out::Out;
+use crate::restatement_items;
 use crate::sender_items;
 use crate::states::States;
 use libc::STDERR_FILENO;
@@ -71,30 +72,31 @@ impl Run {
         self.broken(buffer)
     }
 
-    // Answers item 53, whose call writes words.
-    fn answer_words(self, item: &[u8; 80], buffer: &mut [u8; 4096]) -> Run {
-        let out = self.out;
-        let written = sender_items::zone_answer(out, item, buffer).byte(buffer, b'\n');
+    // The run with a line's end after what was written.
+    fn with_line(self, out: Out, buffer: &mut [u8; 4096]) -> Run {
         let mut run = self;
-        run.out = written;
+        let ended = out.byte(buffer, b'\n');
+        run.out = ended;
         run
     }
 
     // Answers a whole item.
     fn answer(self, item: &[u8; 80], buffer: &mut [u8; 4096]) -> Run {
-        if item[0] == 0x53 {
-            return self.answer_words(item, buffer);
+        let out = self.out;
+        let operation = item[0];
+        if operation == 0x53 {
+            return self.with_line(sender_items::zone_answer(out, item, buffer), buffer);
+        }
+        if operation == 0x70 || operation == 0x71 {
+            return self.with_line(restatement_items::answer(out, item, buffer), buffer);
         }
         let states = self.states;
         let answered = states.answer(item);
         let next = answered.states;
         let line = answered.line;
-        let out = self.out;
-        let written = out.line(buffer, line).byte(buffer, b'\n');
         let mut run = self;
         run.states = next;
-        run.out = written;
-        run
+        run.with_line(out.line(buffer, line), buffer)
     }
 
     // Answers the items of `text`.

@@ -6,6 +6,7 @@ use crate::line::Line;
 use crate::parameter_items;
 use crate::pitch_items;
 use crate::receiver_items;
+use crate::restatement_items;
 use crate::sender_items;
 use mpe_allocator::MpeNoteAllocator;
 use mpe_receiver::MpeReceiver;
@@ -103,6 +104,18 @@ impl States {
         Answered { states, line }
     }
 
+    // Gives the end a restatement.
+    fn answer_restated(self, item: &[u8; 80]) -> Answered {
+        let end = self.end;
+        let next = restatement_items::heard(end, item);
+        let mut states = self;
+        states.end = next;
+        Answered {
+            states,
+            line: Line::new(),
+        }
+    }
+
     // Makes the call of a whole item.
     pub fn answer(self, item: &[u8; 80]) -> Answered {
         let operation = item[0];
@@ -121,6 +134,9 @@ impl States {
         if operation < 0x60 {
             return self.answer_stateless(item);
         }
-        self.answer_allocator(item)
+        if operation < 0x70 {
+            return self.answer_allocator(item);
+        }
+        self.answer_restated(item)
     }
 }

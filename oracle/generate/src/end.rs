@@ -8,7 +8,7 @@ const HARMLESS: [u8; 10] = [0xF8, 0xF8, 0xFA, 0xFB, 0xFC, 0xFE, 0xFF, 0xF4, 0xF5
 const BREAKING: [u8; 6] = [0xF0, 0xF1, 0xF2, 0xF3, 0xF6, 0xF7];
 
 /// Gives the end one byte, by value or lent.
-fn byte(g: &mut Generator, byte: u8) {
+pub fn byte(g: &mut Generator, byte: u8) {
     let call = g.random.one_of(&[0x01, 0x02]);
     g.items.put(&[call, byte]);
     match byte {
@@ -45,12 +45,12 @@ fn message(g: &mut Generator, status: u8, data: &[u8]) {
     }
 }
 
-fn control(g: &mut Generator, channel: u8, controller: u8, value: u8) {
+pub fn control(g: &mut Generator, channel: u8, controller: u8, value: u8) {
     message(g, 0xB0 | channel, &[controller, value]);
 }
 
 /// Selects a number of the kind whose lower half has the controller `low`: mostly both halves.
-fn select(g: &mut Generator, channel: u8, low: u8, number: [u8; 2]) {
+pub fn select(g: &mut Generator, channel: u8, low: u8, number: [u8; 2]) {
     let halves = g.random.one_of(&[1, 2, 3, 3, 3, 3, 3, 3, 3, 3]);
     let turned = g.random.once_in(6);
     if turned && halves & 2 != 0 {
@@ -86,7 +86,7 @@ fn announcement(g: &mut Generator) {
 
 /// A mode message on the lowest member of a zone with so many members (Lower's, Upper's), and what
 /// a member is answered by its zone's mode.
-fn mode(g: &mut Generator, [_, upper]: [u8; 2]) {
+pub fn mode(g: &mut Generator, [_, upper]: [u8; 2]) {
     let lowest = g.random.one_of(&[1, 15u8.saturating_sub(upper)]);
     let (number, value) = (g.random.one_of(&[126, 126, 127]), g.random.seven());
     control(g, lowest, number, value);
@@ -106,7 +106,7 @@ fn mode(g: &mut Generator, [_, upper]: [u8; 2]) {
 }
 
 /// Some data entries and steps.
-fn data(g: &mut Generator, channel: u8) {
+pub fn data(g: &mut Generator, channel: u8) {
     for _ in 0..1 + g.random.below(4) {
         let controller = g.random.one_of(&[6, 38, 96, 97]);
         let value = g.random.seven();
@@ -115,7 +115,7 @@ fn data(g: &mut Generator, channel: u8) {
 }
 
 /// RPN 0, with values where a step carries or stops.
-fn sensitivity(g: &mut Generator) {
+pub fn sensitivity(g: &mut Generator) {
     let channel = g.random.channel();
     select(g, channel, 100, [0, 0]);
     if g.random.once_in(2) {
@@ -157,7 +157,7 @@ fn reset(g: &mut Generator) {
 }
 
 /// A bend, a pressure or a brightness.
-fn expression(g: &mut Generator) {
+pub fn expression(g: &mut Generator) {
     let channel = g.random.channel();
     let (first, second) = (g.random.seven(), g.random.seven());
     match g.random.below(3) {
@@ -217,7 +217,7 @@ fn broken_message(g: &mut Generator) {
 }
 
 /// Moves one reception switch.
-fn switch(g: &mut Generator) {
+pub fn switch(g: &mut Generator) {
     let (switch, channel) = (g.random.one_of(&[0x04, 0x05]), g.random.channel_as_given());
     let on = match g.random.below(2) {
         0 => 1,
@@ -243,13 +243,20 @@ pub fn read(g: &mut Generator) {
     }
 }
 
-/// Something that changes the end.
+/// A new end now and then, otherwise calls that change it.
 pub fn change(g: &mut Generator) {
     match g.random.below(64) {
         0 => {
             g.items.put(&[0x00]);
             g.status = None;
         }
+        choice => changing(g, choice),
+    }
+}
+
+/// Calls that change the end, by a choice from 1 to 63.
+fn changing(g: &mut Generator, choice: u64) {
+    match choice {
         1..=2 => {
             let [lower, upper] = g.random.layout();
             g.items.put(&[0x03, lower, upper]);
@@ -269,6 +276,15 @@ pub fn change(g: &mut Generator) {
 
 pub fn phrase(g: &mut Generator) {
     change(g);
+    if g.random.once_in(2) {
+        read(g);
+    }
+}
+
+/// Calls on one end: as a phrase, but never a new end.
+pub fn calls(g: &mut Generator) {
+    let choice = 1 + g.random.below(63);
+    changing(g, choice);
     if g.random.once_in(2) {
         read(g);
     }

@@ -24,7 +24,7 @@ const SENSITIVITIES: [[u8; 2]; 13] = [
 
 /// Prints the table `name`; none for a name that is no table.
 pub fn trace(name: &str) -> Option<()> {
-    let mut items = Items::new(u64::MAX);
+    let mut items = Items::printed(u64::MAX);
     match name {
         "layouts" => layouts(&mut items),
         "announcements" => announcements(&mut items),

@@ -3,6 +3,8 @@
 //! - `generate SEED COUNT [KIND..]`: a random trace of COUNT items of the kinds named. The same
 //!   words give the same trace.
 //! - `generate --exhaustive NAME`: every case of a small table.
+//! - `generate --triples SEED COUNT`: COUNT times a history, a restatement and a future, and the
+//!   same restatement and future on a new end.
 
 mod allocator;
 mod calls;
@@ -13,6 +15,8 @@ mod random;
 mod receiver;
 mod restatement;
 mod sender;
+mod settings;
+mod triples;
 mod values;
 mod words;
 
@@ -30,6 +34,17 @@ struct Generator {
     status: Option<u8>,
     /// The layout that the allocator plays in.
     played: [u8; 2],
+}
+
+impl Generator {
+    fn new(random: Random, items: Items) -> Self {
+        Self {
+            random,
+            items,
+            status: None,
+            played: [7, 7],
+        }
+    }
 }
 
 /// A phrase: a few items of one kind that belong together.
@@ -50,8 +65,8 @@ const KINDS: [(&str, Phrase, u32); 9] = [
 
 const USAGE: &str = "usage: generate SEED COUNT [KIND..]
        generate --exhaustive NAME
-KIND: end layout pitch apply parameters receiver sender allocator restatement
-      (by default all but restatement)
+       generate --triples SEED COUNT
+KIND: end layout pitch apply parameters receiver sender allocator restatement (by default all)
 NAME: layouts announcements classes pitch";
 
 /// The kinds named, each as often as it is to be chosen; none for a name that is no kind.
@@ -62,11 +77,7 @@ fn chosen(names: &[String]) -> Option<Vec<Phrase>> {
     }
     let mut phrases = Vec::new();
     for (kind, phrase, weight) in KINDS {
-        let wanted = match names {
-            [] => kind != "restatement",
-            names => names.iter().any(|name| name == kind),
-        };
-        if wanted {
+        if names.is_empty() || names.iter().any(|name| name == kind) {
             phrases.extend((0..weight).map(|_| phrase));
         }
     }
@@ -75,12 +86,7 @@ fn chosen(names: &[String]) -> Option<Vec<Phrase>> {
 
 /// Prints `count` items: phrases, one after another, the last one cut where the count ends.
 fn random_trace(seed: u64, count: u64, phrases: &[Phrase]) {
-    let mut generator = Generator {
-        random: Random::new(seed),
-        items: Items::new(count),
-        status: None,
-        played: [7, 7],
-    };
+    let mut generator = Generator::new(Random::new(seed), Items::printed(count));
     while generator.items.wanted() {
         let phrase = generator.random.one_of(phrases);
         phrase(&mut generator);
@@ -90,6 +96,10 @@ fn random_trace(seed: u64, count: u64, phrases: &[Phrase]) {
 fn run(words: &[String]) -> Option<()> {
     match words {
         [option, name] if option == "--exhaustive" => exhaustive::trace(name),
+        [option, seed, count] if option == "--triples" => {
+            triples::trace(seed.parse().ok()?, count.parse().ok()?);
+            Some(())
+        }
         [seed, count, names @ ..] => {
             let phrases = chosen(names)?;
             random_trace(seed.parse().ok()?, count.parse().ok()?, &phrases);

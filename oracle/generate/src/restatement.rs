@@ -1,65 +1,46 @@
 //! The restatement, written out and given to the end.
 
 use crate::sender::length_near;
+use crate::settings::Settings;
 use crate::{end, Generator};
 
 /// Bytes of a settings record before its channels.
 const ZONES: usize = 8;
 
-/// A settings record; mostly legal.
-fn settings(g: &mut Generator) -> Vec<u8> {
-    let [lower, upper] = g.random.layout();
-    let mut settings = vec![lower, upper];
-    for members in [lower, upper] {
-        // The fields of an empty zone are not read.
-        if members == 0 && g.random.once_in(2) {
-            settings.extend([g.random.byte(), g.random.byte(), g.random.byte()]);
-        } else {
-            let semitones = [g.random.below(97) as u8, g.random.one_of(&[0, 2, 48, 96])];
-            settings.extend(semitones);
-            settings.push(g.random.one_of(&[3, 4]));
-        }
-    }
-    for _ in 0..16 {
-        settings.extend(g.random.fourteen().to_be_bytes());
-        settings.extend([g.random.seven(), g.random.seven()]);
-    }
+/// Settings, mostly legal, and their record.
+fn settings(g: &mut Generator) -> (Settings, Vec<u8>) {
+    let layout = g.random.layout();
+    let settings = Settings::random(&mut g.random, layout);
+    let mut record = settings.record();
     if g.random.once_in(6) {
-        spoil(g, &mut settings);
+        spoil(g, &mut record);
     }
-    settings
+    (settings, record)
 }
 
 /// Puts one field at its limit or past it.
-fn spoil(g: &mut Generator, settings: &mut [u8]) {
+fn spoil(g: &mut Generator, record: &mut [u8]) {
     let channel = ZONES + 4 * g.random.below(16) as usize;
     let zone = 2 + 3 * g.random.below(2) as usize;
     match g.random.below(5) {
-        0 => settings[zone] = g.random.one_of(&[96, 97, 127, 255]),
-        1 => settings[zone + 1] = g.random.one_of(&[96, 97, 127, 255]),
-        2 => settings[zone + 2] = g.random.one_of(&[0, 2, 3, 4, 5]),
-        3 => settings[channel] = g.random.one_of(&[0x3F, 0x40, 0xFF]),
-        _ => settings[channel + 2 + g.random.below(2) as usize] = g.random.one_of(&[127, 128, 255]),
+        0 => record[zone] = g.random.one_of(&[96, 97, 127, 255]),
+        1 => record[zone + 1] = g.random.one_of(&[96, 97, 127, 255]),
+        2 => record[zone + 2] = g.random.one_of(&[0, 2, 3, 4, 5]),
+        3 => record[channel] = g.random.one_of(&[0x3F, 0x40, 0xFF]),
+        _ => record[channel + 2 + g.random.below(2) as usize] = g.random.one_of(&[127, 128, 255]),
     }
-}
-
-/// How many messages the restatement of a record has, were it legal.
-fn messages(settings: &[u8]) -> u64 {
-    let [lower, upper] = [u64::from(settings[0]), u64::from(settings[1])];
-    let zones = u64::from(lower > 0) + u64::from(upper > 0);
-    108 + 4 * zones + 3 * (lower + upper)
 }
 
 /// Writes a restatement into a buffer of bytes (16 of its messages have two) or of words.
 fn written(g: &mut Generator) {
-    let settings = settings(g);
-    let words = messages(&settings);
+    let (settings, record) = settings(g);
+    let words = settings.messages();
     let (operation, length) = match g.random.below(2) {
         0 => (0x70, length_near(g, 3 * words - 16, 1024)),
         _ => (0x71, length_near(g, words, 256)),
     };
     let mut item = vec![operation];
-    item.extend(settings);
+    item.extend(record);
     item.extend((length as u16).to_be_bytes());
     g.items.put(&item);
 }
@@ -75,7 +56,7 @@ fn given(g: &mut Generator) {
         }
     }
     let mut item = vec![0x72];
-    item.extend(settings(g));
+    item.extend(settings(g).1);
     g.items.put(&item);
     // The last message of a restatement is a pressure on channel 15.
     g.status = Some(0xDF);

@@ -2,13 +2,14 @@
 
 use crate::Generator;
 
-/// A buffer length beside what is needed: one short, exact, one more, or none at all.
+/// A buffer length beside what is needed: one short, exact, one more, none at all, or the limit.
 pub fn length_near(g: &mut Generator, needed: u64, limit: u64) -> u64 {
-    let length = match g.random.below(8) {
-        0 => 0,
-        1 | 2 => needed.saturating_sub(1),
-        3..=5 => needed,
-        6 => needed + 1,
+    let length = match g.random.below(16) {
+        0..=1 => 0,
+        2..=5 => needed.saturating_sub(1),
+        6..=11 => needed,
+        12..=13 => needed + 1,
+        14 => limit,
         _ => g.random.below(limit + 1),
     };
     length.min(limit)

@@ -109,6 +109,8 @@ fn restatement_sizes() {
         assert!(as_words.starts_with(&format!("{messages} : ")));
         let short = answers(&format!("70 {record} 00 01"));
         assert_eq!(short, format!("!2 {length} 1 : 165\n"));
+        assert_eq!(answers(&format!("70 {record} 04 01")), "?\n");
+        assert_eq!(answers(&format!("71 {record} 01 01")), "?\n");
     }
 }
 

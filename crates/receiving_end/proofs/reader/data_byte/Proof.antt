@@ -1,14 +1,20 @@
 -- `receiving_end::reader::data_byte` meets its contract.
 -- Assumes nothing.
 use borrow.Author.Needs.{needs}
-use Rattle.receiving_end.proofs.reader.data_byte.Statement.{statement}
-use Rattle.receiving_end.proofs.reader.data_byte.Tie as tie
 use Rattle.ump.proofs.Auto.{auto}
 use Rattle.receiving_end.specs.Reader.{dataStep}
+use borrow.Author.Needs.{needs}
+use Rattle.ump.proofs.Auto.{auto}
+use Rattle.receiving_end.specs.Reader.{dataStep}
+use Rattle.receiving_end.proofs.reader.data_byte.Statement.{statement}
+use Rattle.receiving_end.proofs.reader.data_byte.Tie as tie
+
+reading-requires : tie.Need-reading-requires
+reading-requires c κs = search needs
 
 returns : tie.Need-returns
 unfolding dataStep
-returns c = search auto
+returns c = search (auto, c .reading .ensures)
 
 data-of-two-requires : tie.Need-data-of-two-requires
 data-of-two-requires c κs = search needs
@@ -20,9 +26,12 @@ returns-2 c = search (auto, c .data-of-two .ensures)
 word-of-requires : tie.Need-word-of-requires
 word-of-requires c κs = search needs
 
+reading-requires-2 : tie.Need-reading-requires-2
+reading-requires-2 c κs = search needs
+
 returns-3 : tie.Need-returns-3
 unfolding dataStep
-returns-3 c = search (auto, c .word-of .ensures)
+returns-3 c = search (auto, c .before .word-of .ensures, c .reading2 .ensures)
 
 data-of-two-requires-2 : tie.Need-data-of-two-requires-2
 data-of-two-requires-2 c κs = search needs
@@ -35,10 +44,12 @@ pub data-byte-spec : {M : Type 1} → statement M
 data-byte-spec =
     tie.close
     (tie.spec
+    reading-requires
     returns
     data-of-two-requires
     returns-2
     word-of-requires
+    reading-requires-2
     returns-3
     data-of-two-requires-2
     returns-4)

@@ -1,0 +1,436 @@
+// Settings of an end, and the restatement: the messages that bring any end to them.
+ghost use mathlib.Core.Path.{_≡_};
+ghost use mathlib.Core.Bool.{true};
+ghost use mathlib.Core.List.{[], _∷_};
+ghost use Prim.Native.Nat.{ℕ, _+_, _*_, _<_, _≤_, _%_, _/_, _^_};
+ghost use lib.ListN.{length, take};
+ghost use lib.Seq.{sets};
+ghost use Rattle.ump.specs.Outcome.{given, allOf};
+ghost use Rattle.ump.specs.Word.{bendWord, oneDataWord, controlChange, messageMade, twoMade, threeMade};
+ghost use Rattle.ump.specs.Packet.{packetValue};
+ghost use Rattle.mpe_layout.specs.Layout.{legal, membersOf};
+ghost use Rattle.mpe_sender.specs.Zone.{filled, writtenRead};
+ghost use Rattle.restatement.specs.Settings.{newZone, newSettings, zoneOf, zoneAllowed, channelAllowed, andChannel, channelsAllowed, allowed};
+ghost use Rattle.restatement.specs.Messages.{resets, announcements, sensitivities, modes, deselections, controls, messages, bytesOf, bytes, restatement, oneIfAny, messageCount, byteCount, restatedReply, wordsIn, countIn};
+ghost use Rattle.restatement.specs.Demand.{Demand};
+use mpe_layout::MadeLayout;
+use mpe_layout::MpeLayout;
+use mpe_layout::MpeZone;
+use mpe_pitch::MpeSensitivity;
+use mpe_sender::Written;
+use mpe_sender::mcm_messages;
+use mpe_sender::mode_message;
+use mpe_sender::zone_sensitivity_messages;
+use ump::channel_voice1::Message;
+use ump::channel_voice1::Midi1ChannelPressure;
+use ump::channel_voice1::Midi1PitchBend;
+use ump::channel_voice1::ThreeWords;
+use ump::channel_voice1::TwoWords;
+use ump::channel_voice1::channel;
+use ump::channel_voice1::control_change;
+use ump::channel_voice1::first_data;
+use ump::channel_voice1::opcode;
+use ump::channel_voice1::second_data;
+use ump::channel_voice1::three_words;
+use ump::channel_voice1::two_words;
+use ump::packet::Channel;
+use ump::packet::Group;
+
+// What is set for a zone: semitones 0 to 96 of its manager and of its members, and mode 3 or 4. Of a zone without members nothing is read.
+pub struct ZoneSettings {
+    pub manager: u8,
+    pub member: u8,
+    pub mode: u8,
+}
+
+// The settings of an end: a layout, its zones, and for each channel bend 0 to 0x3FFF, pressure and brightness 0 to 127.
+pub struct Settings {
+    pub layout: MpeLayout,
+    pub lower: ZoneSettings,
+    pub upper: ZoneSettings,
+    pub pitch_bend: [u16; 16],
+    pub pressure: [u8; 16],
+    pub brightness: [u8; 16],
+}
+
+impl ZoneSettings {
+    // What a zone without members shows: the default sensitivities, and mode 3.
+    fn new() -> ZoneSettings
+        ensures { λ r. ⌜ r ≡ newZone ⌝ }
+    {
+        let manager = MpeSensitivity::MANAGER_DEFAULT;
+        let member = MpeSensitivity::MEMBER_DEFAULT;
+        ZoneSettings {
+            manager: manager.semitones,
+            member: member.semitones,
+            mode: 3,
+        }
+    }
+}
+
+impl Settings {
+    // No zone, and every channel at rest.
+    pub fn new() -> Settings
+        ensures { λ r. ⌜ r ≡ newSettings ⌝ }
+    {
+        Settings {
+            layout: MpeLayout::NONE,
+            lower: ZoneSettings::new(),
+            upper: ZoneSettings::new(),
+            pitch_bend: [0x2000; 16],
+            pressure: [0; 16],
+            brightness: [64; 16],
+        }
+    }
+
+    fn zone(self, zone: MpeZone) -> ZoneSettings
+        ensures { λ r. ⌜ r ≡ zoneOf self zone ⌝ }
+    {
+        match zone {
+            MpeZone::Lower => self.lower,
+            MpeZone::Upper => self.upper,
+        }
+    }
+}
+
+// The fields of a zone with so many members are inside their limits, or are not read.
+fn zone_allowed(members: u8, zone: ZoneSettings) -> bool
+    ensures { λ r. ⌜ r ≡ zoneAllowed members zone ⌝ }
+{
+    if members == 0 {
+        return true;
+    }
+    if 96 < zone.manager {
+        return false;
+    }
+    if 96 < zone.member {
+        return false;
+    }
+    if zone.mode == 3 {
+        return true;
+    }
+    zone.mode == 4
+}
+
+// The fields of a channel are inside their limits.
+fn channel_allowed(bend: u16, pressure: u8, brightness: u8) -> bool
+    ensures { λ r. ⌜ r ≡ channelAllowed bend pressure brightness ⌝ }
+{
+    if 0x3FFF < bend {
+        return false;
+    }
+    if 127 < pressure {
+        return false;
+    }
+    if 127 < brightness {
+        return false;
+    }
+    true
+}
+
+// So far all is allowed, and this channel is too.
+fn and_channel(so_far: bool, bend: u16, pressure: u8, brightness: u8) -> bool
+    ensures { λ r. ⌜ r ≡ andChannel «so_far» bend pressure brightness ⌝ }
+{
+    if so_far {
+        return channel_allowed(bend, pressure, brightness);
+    }
+    false
+}
+
+fn channels_allowed(settings: Settings) -> bool
+    ensures { λ r. ⌜ r ≡ channelsAllowed settings 16 ⌝ }
+{
+    let mut all = true;
+    let mut k: usize = 0;
+    while k < 16 {
+        all = and_channel(
+            all,
+            settings.pitch_bend[k],
+            settings.pressure[k],
+            settings.brightness[k],
+        );
+        k += 1;
+    }
+    all
+}
+
+// The layout is legal, and every field that is read is inside its limits.
+fn is_allowed(settings: Settings) -> bool
+    ensures { λ r. ⌜ r ≡ allowed settings ⌝ }
+{
+    let layout = settings.layout;
+    let MadeLayout::Made(made) = MpeLayout::new(layout.lower, layout.upper) else {
+        return false;
+    };
+    if !zone_allowed(made.lower, settings.lower) {
+        return false;
+    }
+    if !zone_allowed(made.upper, settings.upper) {
+        return false;
+    }
+    channels_allowed(settings)
+}
+
+// Puts one message at a place, where there is one, and gives the place after it.
+fn put_one(out: &mut [u32], at: usize, message: Message) -> usize
+    requires { ⌜ at + 1 ≤ length (now out) ⌝ }
+    ensures place { λ r. ⌜ r ≡ at + length (wordsIn (allOf (messageMade message ∷ []))) ⌝ }
+    ensures buffer { λ _. ⌜ now (out .exit) ≡ sets (now (out .entry)) at (wordsIn (allOf (messageMade message ∷ []))) ⌝ }
+{
+    let Message::Word(a) = message else {
+        return at;
+    };
+    out[at] = a;
+    at + 1
+}
+
+// Puts two messages at a place.
+fn put_two(out: &mut [u32], at: usize, pair: TwoWords)
+    requires { ⌜ at + 2 ≤ length (now out) ⌝ }
+    ensures { λ _. ⌜ now (out .exit) ≡ sets (now (out .entry)) at (wordsIn (twoMade pair)) ⌝ }
+{
+    let TwoWords::Words(a, b) = pair else {
+        return;
+    };
+    out[at] = a;
+    out[at + 1] = b;
+}
+
+// Puts three messages at a place.
+fn put_three(out: &mut [u32], at: usize, three: ThreeWords)
+    requires { ⌜ at + 3 ≤ length (now out) ⌝ }
+    ensures { λ _. ⌜ now (out .exit) ≡ sets (now (out .entry)) at (wordsIn (threeMade three)) ⌝ }
+{
+    let ThreeWords::Words(a, b, c) = three else {
+        return;
+    };
+    out[at] = a;
+    out[at + 1] = b;
+    out[at + 2] = c;
+}
+
+// A. Reset All Controllers on each channel.
+fn write_resets(out: &mut [u32])
+    requires { ⌜ 16 ≤ length (now out) ⌝ }
+    ensures { λ _. ⌜ now (out .exit) ≡ sets (now (out .entry)) 0 resets ⌝ }
+{
+    let mut k: u8 = 0;
+    while k < 16 {
+        put_one(out, k as usize, control_change(k, 121, 0));
+        k += 1;
+    }
+}
+
+// B. The zones: both with seven members, and then as the layout has them.
+fn write_announcements(out: &mut [u32], at: usize, layout: MpeLayout)
+    requires { ⌜ (at + 12 ≤ length (now out)) × (legal layout ≡ true) ⌝ }
+    ensures { λ _. ⌜ now (out .exit) ≡ sets (now (out .entry)) at (announcements layout) ⌝ }
+{
+    put_three(out, at, mcm_messages(MpeZone::Lower, 7));
+    put_three(out, at + 3, mcm_messages(MpeZone::Upper, 7));
+    put_three(out, at + 6, mcm_messages(MpeZone::Lower, layout.lower));
+    put_three(out, at + 9, mcm_messages(MpeZone::Upper, layout.upper));
+}
+
+// The place after what was written: an empty zone is out of range to its writers, and nothing is written.
+fn place_after(at: usize, written: Written) -> usize
+    requires { ⌜ at + countIn (writtenRead written) < 2 ^ 64 ⌝ }
+    ensures { λ r. ⌜ r ≡ at + countIn (writtenRead written) ⌝ }
+{
+    match written {
+        Written::Count(n) => at + n,
+        Written::OutOfRange => at,
+        Written::TooSmall { needed, got } => at,
+    }
+}
+
+// C. The sensitivities of a zone, if it has members; gives the place after them.
+fn write_sensitivities(out: &mut [u32], at: usize, settings: Settings, zone: MpeZone) -> usize
+    requires { ⌜ (allowed settings ≡ true) × (at + length (sensitivities settings zone) ≤ length (now out)) ⌝ }
+    ensures place { λ r. ⌜ r ≡ at + length (sensitivities settings zone) ⌝ }
+    ensures buffer { λ _. ⌜ now (out .exit) ≡ sets (now (out .entry)) at (sensitivities settings zone) ⌝ }
+{
+    let set = settings.zone(zone);
+    let written = zone_sensitivity_messages(
+        settings.layout,
+        zone,
+        set.manager,
+        set.member,
+        &mut out[at..],
+    );
+    place_after(at, written)
+}
+
+// D. The mode of a zone, if it has members; gives the place after it.
+fn write_mode(out: &mut [u32], at: usize, settings: Settings, zone: MpeZone) -> usize
+    requires { ⌜ (allowed settings ≡ true) × (at + 1 ≤ length (now out)) ⌝ }
+    ensures place { λ r. ⌜ r ≡ at + length (modes settings zone) ⌝ }
+    ensures buffer { λ _. ⌜ now (out .exit) ≡ sets (now (out .entry)) at (modes settings zone) ⌝ }
+{
+    let set = settings.zone(zone);
+    put_one(out, at, mode_message(settings.layout, zone, set.mode == 4))
+}
+
+// E. The null parameter on each channel.
+fn write_deselections(out: &mut [u32], at: usize)
+    requires { ⌜ at + 32 ≤ length (now out) ⌝ }
+    ensures { λ _. ⌜ now (out .exit) ≡ sets (now (out .entry)) at deselections ⌝ }
+{
+    let mut k: u8 = 0;
+    while k < 16 {
+        put_two(
+            out,
+            at + k as usize * 2,
+            two_words(control_change(k, 101, 127), control_change(k, 100, 127)),
+        );
+        k += 1;
+    }
+}
+
+// Pitch Bend, controller 74 and Channel Pressure of a channel.
+fn channel_messages(channel: u8, bend: u16, brightness: u8, pressure: u8) -> ThreeWords
+    ensures { λ r. ⌜ threeMade r ≡ allOf (bendWord 0 (packetValue channel) bend ∷ controlChange channel 74 brightness ∷ oneDataWord 0xD 0 (packetValue channel) pressure ∷ []) ⌝ }
+{
+    three_words(
+        Midi1PitchBend::try_new(Group::from_bits(0), Channel::from_bits(channel), bend),
+        control_change(channel, 74, brightness),
+        Midi1ChannelPressure::try_new(Group::from_bits(0), Channel::from_bits(channel), pressure),
+    )
+}
+
+// F. The controls of each channel.
+fn write_controls(out: &mut [u32], at: usize, settings: Settings)
+    requires { ⌜ (at + 48 ≤ length (now out)) × (allowed settings ≡ true) ⌝ }
+    ensures { λ _. ⌜ now (out .exit) ≡ sets (now (out .entry)) at (controls settings) ⌝ }
+{
+    let mut k: u8 = 0;
+    while k < 16 {
+        let i = k as usize;
+        put_three(
+            out,
+            at + i * 3,
+            channel_messages(
+                k,
+                settings.pitch_bend[i],
+                settings.brightness[i],
+                settings.pressure[i],
+            ),
+        );
+        k += 1;
+    }
+}
+
+// All the messages, at the front of `out`.
+fn write_messages(settings: Settings, out: &mut [u32])
+    requires { ⌜ (allowed settings ≡ true) × (messageCount (settings .layout) ≤ length (now out)) ⌝ }
+    ensures { λ _. ⌜ now (out .exit) ≡ sets (now (out .entry)) 0 (messages settings) ⌝ }
+{
+    write_resets(out);
+    write_announcements(out, 16, settings.layout);
+    let a = write_sensitivities(out, 28, settings, MpeZone::Lower);
+    let b = write_sensitivities(out, a, settings, MpeZone::Upper);
+    let c = write_mode(out, b, settings, MpeZone::Lower);
+    let d = write_mode(out, c, settings, MpeZone::Upper);
+    write_deselections(out, d);
+    write_controls(out, d + 32, settings);
+}
+
+// How many messages there are.
+fn one_if_any(members: u8) -> usize
+    ensures { λ r. ⌜ r ≡ oneIfAny members ⌝ }
+{
+    if members == 0 {
+        return 0;
+    }
+    1
+}
+
+fn message_count(layout: MpeLayout) -> usize
+    ensures { λ r. ⌜ r ≡ messageCount layout ⌝ }
+{
+    let zones = one_if_any(layout.lower) + one_if_any(layout.upper);
+    let members = layout.lower as usize + layout.upper as usize;
+    108 + 4 * zones + 3 * members
+}
+
+// How many bytes: three a message, less one for each channel's pressure.
+fn byte_count(layout: MpeLayout) -> usize
+    ensures { λ r. ⌜ r ≡ byteCount layout ⌝ }
+{
+    3 * message_count(layout) - 16
+}
+
+// Writes the messages that bring any end to these settings, as words at the front of `out`. Settings outside their limits are out of range; then a
+// short buffer is too small.
+pub fn restatement_words(settings: Settings, out: &mut [u32]) -> Written
+    ensures reply { λ r. ⌜ writtenRead r ≡ restatedReply settings (messageCount (settings .layout)) (length (now (out .entry))) ⌝ }
+    ensures buffer { λ _. ⌜ now (out .exit) ≡ filled (restatedReply settings (messageCount (settings .layout)) (length (now (out .entry)))) (messages settings) (now (out .entry)) ⌝ }
+{
+    if !is_allowed(settings) {
+        return Written::OutOfRange;
+    }
+    let needed = message_count(settings.layout);
+    let got = out.len();
+    if got < needed {
+        return Written::TooSmall { needed, got };
+    }
+    write_messages(settings, out);
+    Written::Count(needed)
+}
+
+// Puts the bytes of a message at a place, and gives the place after them.
+fn put_bytes(out: &mut [u8], at: usize, word: u32) -> usize
+    requires { ⌜ at + length (bytesOf word) ≤ length (now out) ⌝ }
+    ensures place { λ r. ⌜ r ≡ at + length (bytesOf word) ⌝ }
+    ensures buffer { λ _. ⌜ now (out .exit) ≡ sets (now (out .entry)) at (bytesOf word) ⌝ }
+{
+    let op = opcode(word);
+    out[at] = op * 16 + channel(word);
+    out[at + 1] = first_data(word);
+    if op == 0xC {
+        return at + 2;
+    }
+    if op == 0xD {
+        return at + 2;
+    }
+    out[at + 2] = second_data(word);
+    at + 3
+}
+
+// Writes the bytes of the first n messages at the front of `out`.
+fn write_bytes(words: &[u32], n: usize, out: &mut [u8])
+    requires { ⌜ (n ≤ length (now words)) × (length (bytes (take n (now words))) ≤ length (now out)) ⌝ }
+    ensures { λ _. ⌜ now (out .exit) ≡ sets (now (out .entry)) 0 (bytes (take n (now (words .entry)))) ⌝ }
+{
+    let mut at: usize = 0;
+    let mut k: usize = 0;
+    while k < n {
+        at = put_bytes(out, at, words[k]);
+        k += 1;
+    }
+}
+
+// The most messages that settings can take: (7,7).
+const MOST_MESSAGES: usize = 158;
+
+// Writes the restatement of these settings: the same messages as bytes, each with its own status byte. What `demand` says is demand 3, of the very
+// bytes written.
+pub fn restatement_bytes(settings: Settings, out: &mut [u8]) -> Written
+    ensures reply { λ r. ⌜ writtenRead r ≡ restatedReply settings (byteCount (settings .layout)) (length (now (out .entry))) ⌝ }
+    ensures buffer { λ _. ⌜ now (out .exit) ≡ filled (restatedReply settings (byteCount (settings .layout)) (length (now (out .entry)))) (restatement settings) (now (out .entry)) ⌝ }
+    ensures demand { λ r. ⌜ ((n : ℕ) → writtenRead r ≡ given n → Demand settings (take n (now (out .exit)))) ⌝ }
+{
+    if !is_allowed(settings) {
+        return Written::OutOfRange;
+    }
+    let needed = byte_count(settings.layout);
+    let got = out.len();
+    if got < needed {
+        return Written::TooSmall { needed, got };
+    }
+    let mut words: [u32; MOST_MESSAGES] = [0; MOST_MESSAGES];
+    write_messages(settings, &mut words);
+    write_bytes(&words, message_count(settings.layout), out);
+    Written::Count(needed)
+}

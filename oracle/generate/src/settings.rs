@@ -1,0 +1,204 @@
+//! Settings, and their restatement as bytes, written by hand from document 01, "Restatement",
+//! and apart from that of `trace`.
+
+use crate::random::Random;
+
+#[derive(Clone, Copy)]
+pub struct Zone {
+    pub manager: u8,
+    pub member: u8,
+    pub mode: u8,
+}
+
+#[derive(Clone, Copy)]
+pub struct Channel {
+    pub bend: u16,
+    pub pressure: u8,
+    pub brightness: u8,
+}
+
+/// A settings record, S of docs/REPLAY.md.
+pub struct Settings {
+    /// The members of Lower and Upper.
+    pub layout: [u8; 2],
+    pub zones: [Zone; 2],
+    pub channels: [Channel; 16],
+}
+
+/// Semitones from 0 to 96, often at a limit or as new.
+fn semitones(random: &mut Random) -> u8 {
+    match random.below(3) {
+        0 => random.one_of(&[0, 1, 2, 48, 95, 96]),
+        _ => random.below(97) as u8,
+    }
+}
+
+/// A zone inside its limits; the fields of an empty one are not read and may be anything.
+fn zone(random: &mut Random, members: u8) -> Zone {
+    if members == 0 && random.once_in(2) {
+        return Zone {
+            manager: random.byte(),
+            member: random.byte(),
+            mode: random.byte(),
+        };
+    }
+    Zone {
+        manager: semitones(random),
+        member: semitones(random),
+        mode: random.one_of(&[3, 4]),
+    }
+}
+
+fn channel(random: &mut Random) -> Channel {
+    Channel {
+        bend: random.fourteen(),
+        pressure: random.seven(),
+        brightness: random.seven(),
+    }
+}
+
+impl Settings {
+    /// Settings with this layout, and every field that is read inside its limits.
+    pub fn random(random: &mut Random, layout: [u8; 2]) -> Self {
+        Self {
+            layout,
+            zones: layout.map(|members| zone(random, members)),
+            channels: std::array::from_fn(|_| channel(random)),
+        }
+    }
+
+    /// S: the record as arguments of an item.
+    pub fn record(&self) -> Vec<u8> {
+        let mut record = self.layout.to_vec();
+        for zone in self.zones {
+            record.extend([zone.manager, zone.member, zone.mode]);
+        }
+        for channel in self.channels {
+            record.extend(channel.bend.to_be_bytes());
+            record.extend([channel.pressure, channel.brightness]);
+        }
+        record
+    }
+
+    /// How many messages the restatement has.
+    pub fn messages(&self) -> u64 {
+        let [lower, upper] = self.layout.map(u64::from);
+        let zones = u64::from(lower > 0) + u64::from(upper > 0);
+        108 + 4 * zones + 3 * (lower + upper)
+    }
+
+    /// The zones with members: the manager's channel, the lowest member, the count, the settings.
+    fn active(&self) -> Vec<(u8, u8, u8, Zone)> {
+        let ([lower, upper], [lower_zone, upper_zone]) = (self.layout, self.zones);
+        let mut active = Vec::new();
+        if lower > 0 {
+            active.push((0, 1, lower, lower_zone));
+        }
+        if upper > 0 {
+            active.push((15, 15 - upper, upper, upper_zone));
+        }
+        active
+    }
+
+    /// The restatement of legal settings.
+    pub fn bytes(&self) -> Vec<u8> {
+        let [lower, upper] = self.layout;
+        let mut bytes = Vec::new();
+        // A. Controller 121 on each channel.
+        for channel in 0..16 {
+            bytes.extend([0xB0 + channel, 121, 0]);
+        }
+        // B. Lower 7, Upper 7, and the layout.
+        for (manager, members) in [(0, 7), (15, 7), (0, lower), (15, upper)] {
+            rpn(&mut bytes, manager, 6, members);
+        }
+        self.sensitivities(&mut bytes);
+        self.modes(&mut bytes);
+        // E. The null number on each channel.
+        for channel in 0..16 {
+            bytes.extend([0xB0 + channel, 101, 127]);
+            bytes.extend([0xB0 + channel, 100, 127]);
+        }
+        self.controls(&mut bytes);
+        bytes
+    }
+
+    /// C. The sensitivities: the manager's, and those of the members from the lowest up.
+    fn sensitivities(&self, bytes: &mut Vec<u8>) {
+        for (manager, lowest, members, zone) in self.active() {
+            rpn(bytes, manager, 0, zone.manager);
+            for member in lowest..lowest + members {
+                rpn(bytes, member, 0, zone.member);
+            }
+        }
+    }
+
+    /// D. The modes, on the lowest members: 126 with the count is mode 4, 127 with 0 mode 3.
+    fn modes(&self, bytes: &mut Vec<u8>) {
+        for (_, lowest, members, zone) in self.active() {
+            match zone.mode {
+                4 => bytes.extend([0xB0 + lowest, 126, members]),
+                _ => bytes.extend([0xB0 + lowest, 127, 0]),
+            }
+        }
+    }
+
+    /// F. Bend, its lower seven bits first, then 74 and pressure of each channel.
+    fn controls(&self, bytes: &mut Vec<u8>) {
+        for (channel, set) in (0..16).zip(self.channels) {
+            let [low, high] = [set.bend % 128, set.bend / 128].map(|half| half as u8);
+            bytes.extend([0xE0 + channel, low, high]);
+            bytes.extend([0xB0 + channel, 74, set.brightness]);
+            bytes.extend([0xD0 + channel, set.pressure]);
+        }
+    }
+
+    /// How the answer to item 06 is to begin once the settings are shown.
+    pub fn shown_zones(&self) -> String {
+        let [lower, upper] = self.layout;
+        let mut shown = format!("{lower} {upper}");
+        for (members, zone) in self.layout.into_iter().zip(self.zones) {
+            shown += &match members {
+                0 => " 2 0 48 0 3".to_string(),
+                _ => format!(" {} 0 {} 0 {}", zone.manager, zone.member, zone.mode),
+            };
+        }
+        shown
+    }
+
+    /// How the answer to item 07 of each channel is to begin.
+    pub fn shown_channels(&self) -> [String; 16] {
+        self.channels.map(|channel| {
+            format!(
+                "{} {} {}",
+                channel.bend, channel.pressure, channel.brightness
+            )
+        })
+    }
+}
+
+/// Registered parameter 0 0 or 0 6 (its lower half is `number`) and data entry MSB, each message
+/// with its own status.
+fn rpn(bytes: &mut Vec<u8>, channel: u8, number: u8, value: u8) {
+    for (controller, data) in [(101, 0), (100, number), (6, value)] {
+        bytes.extend([0xB0 + channel, controller, data]);
+    }
+}
+
+#[cfg(test)]
+mod tests {
+    use super::*;
+
+    /// The sizes of document 01, "Bench examples".
+    #[test]
+    fn sizes() {
+        for (layout, messages, length) in
+            [([0, 0], 108, 308), ([7, 7], 158, 458), ([15, 0], 157, 455)]
+        {
+            let settings = Settings::random(&mut Random::new(1), layout);
+            assert_eq!(settings.messages(), messages);
+            assert_eq!(settings.bytes().len(), length);
+            assert_eq!(settings.record().len(), 72);
+        }
+    }
+}
