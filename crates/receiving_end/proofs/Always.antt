@@ -9,15 +9,15 @@ use Rattle.parameters.specs.State.{newState}
 use Rattle.mpe_receiver.specs.declared.MpeReceiver.{MpeReceiver}
 use Rattle.mpe_receiver.specs.WellFormed.{WellFormed}
 use Rattle.mpe_receiver.proofs.WellFormed.{new-formed, received-formed, set-formed}
-use Rattle.receiving_end.specs.declared.reader.Reader.{Reader}
-use Rattle.receiving_end.specs.declared.reader.Read.{Read}
-use Rattle.receiving_end.specs.declared.reader.Read.the-variants.{Quiet, Dropped, RealTime, Message}
+use Rattle.byte_reader.specs.declared.Reader.{Reader}
+use Rattle.byte_reader.specs.declared.Read.{Read}
+use Rattle.byte_reader.specs.declared.Read.the-variants.{Quiet, Dropped, RealTime, Message}
 use Rattle.receiving_end.specs.declared.end.End.{End}
-use Rattle.receiving_end.specs.Reader.{readStep, readAll, Sound}
+use Rattle.byte_reader.specs.Reader.{readStep, readAll, Sound}
 use Rattle.receiving_end.specs.End.{newEnd, withReader, withReceiver, withParameter, messageAt, answerStep, stepOf, stepEnd}
 use Rattle.receiving_end.specs.Lists.{Call, byteByValue, byteLent, setLayout, setRpnReception, setNrpnReception, layout, mode, sensitivity, pitchBend, pressure, brightness, pitchOffset, selection, rpnReception, nrpnReception, next, after}
 use Rattle.receiving_end.specs.WellFormed.{EndFormed, AlwaysFormed}
-use Rattle.receiving_end.proofs.Formed.{new-sound, sound-after}
+use Rattle.byte_reader.proofs.Formed.{new-sound, sound-after}
 
 pub new-end-formed : EndFormed newEnd
 new-end-formed =

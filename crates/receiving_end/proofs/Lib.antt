@@ -1,7 +1,6 @@
 -- Laws that proofs of this crate and of those above it cite.
 pub mod Bytes
 pub mod Messages
-pub mod Formed
 pub mod Parts
 pub mod Quiet
 pub mod Tell

@@ -9,13 +9,13 @@ use native.Mathlib.Omega.{arith}
 use lib.Dec.{eqb}
 use Rattle.ump.specs.Choice.{if_then_else_}
 use Rattle.ump.proofs.Auto.{auto}
-use Rattle.receiving_end.specs.declared.reader.ByteClass.{ByteClass}
-use Rattle.receiving_end.specs.declared.reader.ByteClass.the-variants as class
-use Rattle.receiving_end.specs.declared.reader.Reader.{Reader}
-use Rattle.receiving_end.specs.declared.reader.Read.the-variants as read
-use Rattle.receiving_end.specs.declared.reader.ReadStep.{ReadStep}
+use Rattle.byte_reader.specs.declared.ByteClass.{ByteClass}
+use Rattle.byte_reader.specs.declared.ByteClass.the-variants as class
+use Rattle.byte_reader.specs.declared.Reader.{Reader}
+use Rattle.byte_reader.specs.declared.Read.the-variants as read
+use Rattle.byte_reader.specs.declared.ReadStep.{ReadStep}
 use Rattle.receiving_end.specs.declared.end.End.{End}
-use Rattle.receiving_end.specs.Reader.{readerAt, reading, classOf, messageWord, secondData, dataStep, classStep, readStep}
+use Rattle.byte_reader.specs.Reader.{readerAt, reading, classOf, messageWord, secondData, dataStep, classStep, readStep}
 use Rattle.receiving_end.specs.End.{withReader, messageStep, answerStep, stepOf, stepEnd}
 use Rattle.receiving_end.specs.Lists.{heard}
 

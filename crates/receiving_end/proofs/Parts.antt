@@ -13,7 +13,7 @@ use Rattle.parameters.specs.declared.Heard.{Heard}
 use Rattle.parameters.specs.State as parameter
 use Rattle.mpe_receiver.specs.Receive as receiver
 use Rattle.receiving_end.specs.declared.end.End.{End}
-use Rattle.receiving_end.specs.Reader.{readerAt, messageWord}
+use Rattle.byte_reader.specs.Reader.{readerAt, messageWord}
 use Rattle.receiving_end.specs.End.{withReader, withReceiver, withParameter, parameterAt, messageAt, messageStep}
 use Rattle.receiving_end.specs.Lists.{heard}
 use Rattle.receiving_end.proofs.Messages.{message-heard, short-heard}

@@ -16,7 +16,7 @@ use Rattle.parameters.specs.State as parameter
 use Rattle.mpe_receiver.specs.declared.MpeReceiver.{MpeReceiver}
 use Rattle.mpe_receiver.specs.Receive.{stored, heardOf}
 use Rattle.receiving_end.specs.declared.end.End.{End}
-use Rattle.receiving_end.specs.Reader.{readerAt}
+use Rattle.byte_reader.specs.Reader.{readerAt}
 use Rattle.receiving_end.specs.End.{withReader, withReceiver, withParameter, parameterAt}
 use Rattle.receiving_end.proofs.Parts.{said, told, statusOf}
 use Rattle.receiving_end.proofs.Quiet.{NoMode, receiver-quiet}

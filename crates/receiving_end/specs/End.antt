@@ -17,14 +17,14 @@ use Rattle.mpe_receiver.specs.declared.MpeEvent.{MpeEvent}
 use Rattle.mpe_receiver.specs.declared.MpeEvent.the-variants.{Ignored}
 use Rattle.mpe_receiver.specs.State.{newReceiver}
 use Rattle.mpe_receiver.specs.Receive as receiver
-use Rattle.receiving_end.specs.declared.reader.Reader.{Reader}
-use Rattle.receiving_end.specs.declared.reader.Read.{Read}
-use Rattle.receiving_end.specs.declared.reader.Read.the-variants as read
+use Rattle.byte_reader.specs.declared.Reader.{Reader}
+use Rattle.byte_reader.specs.declared.Read.{Read}
+use Rattle.byte_reader.specs.declared.Read.the-variants as read
 use Rattle.receiving_end.specs.declared.end.End.{End}
 use Rattle.receiving_end.specs.declared.end.Reply.{Reply}
 use Rattle.receiving_end.specs.declared.end.Reply.the-variants.{Quiet, Dropped, RealTime, Message}
 use Rattle.receiving_end.specs.declared.end.Stepped.{Stepped}
-use Rattle.receiving_end.specs.Reader.{newReader, readStep}
+use Rattle.byte_reader.specs.Reader.{newReader, readStep}
 
 -- a new end ("end" is document 01's term)
 abbrev pub newEnd : End

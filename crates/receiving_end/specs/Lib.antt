@@ -1,5 +1,4 @@
--- Definitions that the contracts cite: the byte reader, the end, and lists of calls.
-pub mod Reader
+-- Definitions that the contracts cite: the end, and lists of calls.
 pub mod End
 pub mod Lists
 pub mod WellFormed

@@ -4,7 +4,7 @@ use mathlib.Core.List.{List}
 use lib.ListN.{length}
 use Rattle.mpe_receiver.specs.WellFormed.{WellFormed}
 use Rattle.receiving_end.specs.declared.end.End.{End}
-use Rattle.receiving_end.specs.Reader.{Sound}
+use Rattle.byte_reader.specs.Reader.{Sound}
 use Rattle.receiving_end.specs.End.{newEnd}
 use Rattle.receiving_end.specs.Lists.{Call, after}
 

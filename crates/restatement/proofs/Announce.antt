@@ -22,8 +22,9 @@ use Rattle.mpe_receiver.specs.declared.MpeReceiver.{MpeReceiver}
 use Rattle.mpe_receiver.specs.State.{withLayout}
 use Rattle.mpe_receiver.specs.Zones.{relaid, activated, activatedIf, announcedTo, announcementResets}
 use Rattle.mpe_receiver.specs.Receive.{stored, announced, configured, heardOf}
+use Rattle.mpe_sender.proofs.Groups.{manager-lt}
 use Rattle.receiving_end.specs.declared.end.End.{End}
-use Rattle.receiving_end.specs.Reader.{readerAt}
+use Rattle.byte_reader.specs.Reader.{readerAt}
 use Rattle.receiving_end.specs.End.{withReader, withReceiver, withParameter, parameterAt}
 use Rattle.receiving_end.specs.Lists.{heard}
 use Rattle.receiving_end.proofs.Parts.{statusOf}
@@ -68,10 +69,6 @@ announced-zones r zone v h b =
     rw (le-ltb 15 v b)
     (laid-zones v r zone (announcedTo (r .layout) zone v) (announcementResets (r .layout) (announcedTo (r .layout) zone v) zone)
     ∙ ap (λ l. activatedIf v (withLayout (zonesOf r) l) zone) (lawful-to (r .layout) zone v h))
-
-manager-lt : (zone : MpeZone) → managerOf zone < 16
-manager-lt Lower = omega arith
-manager-lt Upper = omega arith
 
 -- one announcement on the way
 pub announced-stage : {z : MpeReceiver} (e : End) (zone : MpeZone) (v : ℕ) → v ≤ 15 → Stage z e → Stage (announcedZones z zone v) (told-all e (announcement zone v))

@@ -9,7 +9,7 @@ use Rattle.parameters.specs.declared.ParameterState.{ParameterState}
 use Rattle.parameters.specs.State.{nullNumber, nulled, numberStored}
 use Rattle.mpe_receiver.specs.Receive.{stored}
 use Rattle.receiving_end.specs.declared.end.End.{End}
-use Rattle.receiving_end.specs.Reader.{readerAt}
+use Rattle.byte_reader.specs.Reader.{readerAt}
 use Rattle.receiving_end.specs.End.{withReader, withReceiver, withParameter, parameterAt}
 use Rattle.receiving_end.specs.WellFormed.{EndFormed}
 use Rattle.receiving_end.proofs.Parts.{statusOf}

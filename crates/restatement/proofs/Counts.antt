@@ -147,7 +147,7 @@ modes-bytes s zone h =
     (λ e. rw e)
     (λ e.
     let g = allowed-legal s h in
-    let lt = lowest-lt s zone g (omega (arith, eqb-false (membersIn s zone) 0 e)) in
+    let lt = lowest-lt (s .layout) zone g (omega (arith, eqb-false (membersIn s zone) 0 e)) in
     let mono = control-bytes (lowestOf (s .layout) zone) 126 (membersIn s zone) lt (omega arith) (omega (arith, members-le (s .layout) zone g)) in
     let poly = control-bytes (lowestOf (s .layout) zone) 127 0 lt (omega arith) (omega arith) in
     rw (e, append-nil) (of-both (λ w. length (bytesOf w) ≡ 3) (isMono (zoneOf s zone)) mono poly))

@@ -14,7 +14,8 @@ use Rattle.ump.specs.Outcome.{given, allOf}
 use Rattle.ump.specs.Packet.{packetValue}
 use Rattle.ump.specs.Word.{controlChange, twoDataWord, oneDataWord, bendWord}
 use Rattle.ump.proofs.Cases.{by-test}
-use Rattle.mpe_layout.specs.Layout.{legal, managerOf, lowestOf}
+use Rattle.mpe_layout.specs.Layout.{legal, membersOf, managerOf, lowestOf}
+use Rattle.mpe_layout.specs.declared.MpeLayout.{MpeLayout}
 use Rattle.mpe_layout.specs.declared.MpeZone.{MpeZone}
 use Rattle.mpe_layout.proofs.Legal.{members-le}
 use Rattle.mpe_sender.specs.Writers.{controlWord, mcmMessages, modeOn, modeMessage, groupSize}
@@ -50,16 +51,16 @@ unfolding mcmMessages
 announcement-made zone members h = rw (le-ltb 15 members h)
 
 -- the lowest member is a channel
-pub lowest-lt : (s : Settings) (zone : MpeZone) → legal (s .layout) ≡ true → 0 < membersIn s zone → lowestOf (s .layout) zone < 16
-lowest-lt s zone h some = omega (arith, members-in (s .layout) zone h)
+pub lowest-lt : (l : MpeLayout) (zone : MpeZone) → legal l ≡ true → 0 < membersOf l zone → lowestOf l zone < 16
+lowest-lt l zone h some = omega (arith, members-in l zone h)
 
 mode-on : (s : Settings) (zone : MpeZone) (mono : Bool) → legal (s .layout) ≡ true → 0 < membersIn s zone
     → modeOn (lowestOf (s .layout) zone) (membersIn s zone) mono
     ≡ given (if mono then controlWord (lowestOf (s .layout) zone) 126 (membersIn s zone) else controlWord (lowestOf (s .layout) zone) 127 0)
 unfolding modeOn
 mode-on s zone true h some =
-    control-made (lowestOf (s .layout) zone) 126 (membersIn s zone) (lowest-lt s zone h some) (omega arith) (omega (arith, members-le (s .layout) zone h))
-mode-on s zone false h some = control-made (lowestOf (s .layout) zone) 127 0 (lowest-lt s zone h some) (omega arith) (omega arith)
+    control-made (lowestOf (s .layout) zone) 126 (membersIn s zone) (lowest-lt (s .layout) zone h some) (omega arith) (omega (arith, members-le (s .layout) zone h))
+mode-on s zone false h some = control-made (lowestOf (s .layout) zone) 127 0 (lowest-lt (s .layout) zone h some) (omega arith) (omega arith)
 
 -- D
 pub mode-made : (s : Settings) (zone : MpeZone) → allowed s ≡ true

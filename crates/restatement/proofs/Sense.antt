@@ -6,7 +6,6 @@ use mathlib.Core.Bool.{Bool, true, false}
 use mathlib.Core.List.{List, [], _∷_}
 use native.Mathlib.Omega.{arith}
 use native.Mathlib.Numerals.{add-one}
-use native.Mathlib.Nat.{add-zero}
 use lib.Dec.{eqb}
 use lib.ListN.{set}
 use lib.Seq.{set-set, set-comm}
@@ -32,8 +31,10 @@ use Rattle.mpe_receiver.specs.Zones.{slotOf, sensitivityPut, roleHeld, isLowest
 use Rattle.mpe_receiver.specs.Receive.{stored, rpnZero, sensitivityByRole, onMember, byRole, modeMessage, heardOf}
 use Rattle.mpe_sender.specs.Writers.{controlWord, sensitivityGroup}
 use Rattle.mpe_sender.specs.Zone.{zoneGroups, channelAt, semitonesAt, groupAt, groups, zoneWords}
+use Rattle.mpe_sender.proofs.Groups.{manager-lt}
+use Rattle.mpe_sender.proofs.Zones.{members-in}
 use Rattle.receiving_end.specs.declared.end.End.{End}
-use Rattle.receiving_end.specs.Reader.{readerAt}
+use Rattle.byte_reader.specs.Reader.{readerAt}
 use Rattle.receiving_end.specs.End.{withReader, withReceiver, withParameter, parameterAt}
 use Rattle.receiving_end.specs.Lists.{heard}
 use Rattle.receiving_end.proofs.Parts.{statusOf}
@@ -42,6 +43,7 @@ use Rattle.restatement.specs.declared.Settings.{Settings}
 use Rattle.restatement.specs.Settings.{zoneOf, membersIn, isMono, allowed}
 use Rattle.restatement.specs.Messages.{bytes, sensitivities, modes}
 use Rattle.restatement.proofs.Allowed.{allowed-legal, allowed-zone}
+use Rattle.restatement.proofs.Made.{lowest-lt}
 use Rattle.restatement.proofs.Told.{told-all, told-append, control-all, group-bytes, heard-formed}
 use Rattle.restatement.proofs.Stage.{cleared-with, zonesOf, Stage, stage-at}
 
@@ -120,17 +122,6 @@ one-member z zone a b zero = refl
 one-member z zone a b (suc n) =
     ap (withSensitivities z) (put-again (sensitivityPut (z .sensitivity) (slotOf zone true) a 0) (slotOf zone false) b)
 
-manager-lt : (zone : MpeZone) → managerOf zone < 16
-manager-lt Lower = omega arith
-manager-lt Upper = omega arith
-
-lowest-lt : (l : MpeLayout) (zone : MpeZone) (k : ℕ) → legal l ≡ true → k < membersOf l zone → lowestOf l zone + k < 16
-lowest-lt l Lower k h b = omega (arith, members-le l Lower h)
-lowest-lt l Upper k h b = omega (arith, members-le l Upper h)
-
-lowest-lt-16 : (l : MpeLayout) (zone : MpeZone) → legal l ≡ true → 0 < membersOf l zone → lowestOf l zone < 16
-lowest-lt-16 l zone h some = rw add-zero at (lowest-lt l zone 0 h some)
-
 module _ (z : MpeReceiver) (zone : MpeZone) (a b : ℕ) (h : legal (z .layout) ≡ true) (some : 0 < membersOf (z .layout) zone) (ha : a < 128) (hb : b < 128) where
   abbrev first : ℕ → List ℕ
   first n = groups (zoneGroups (managerOf zone) (lowestOf (z .layout) zone) a b) n
@@ -156,7 +147,7 @@ module _ (z : MpeReceiver) (zone : MpeZone) (a b : ℕ) (h : legal (z .layout) �
       subst (λ x. Stage (sensed (sensed z zone true a) zone false b) x)
       (sym (told-append e (first (suc n)) (at (suc n)) ∙ ap (told-all (told-all e (first (suc n)))) (at-member n)))
       (subst (λ y. Stage y (told-all (told-all e (first (suc n))) (sensitivityGroup (lowestOf (z .layout) zone + n) b))) (one-member z zone a b n)
-      (group-stage (told-all e (first (suc n))) (lowestOf (z .layout) zone + n) b zone false (lowest-lt (z .layout) zone n h k) hb
+      (group-stage (told-all e (first (suc n))) (lowestOf (z .layout) zone + n) b zone false (omega (arith, members-in (z .layout) zone h)) hb
       (ap (λ l. roleOf l (lowestOf (z .layout) zone + n)) (sensed-layout z zone a b (suc n)) ∙ member-role (z .layout) zone n h k)
       m))
 
@@ -214,11 +205,11 @@ mode-acts : (r : MpeReceiver) (zone : MpeZone) (mono : Bool) (v : ℕ) → legal
 unfolding heardOf stored onMember
 mode-acts r zone true v h some =
     let k = lowestOf (r .layout) zone in
-    ap (λ ro. byRole r k ro 0xB 126 .receiver) (held (r .layout) k h (lowest-lt-16 (r .layout) zone h some) ∙ lowest-role (r .layout) zone h some)
+    ap (λ ro. byRole r k ro 0xB 126 .receiver) (held (r .layout) k h (lowest-lt (r .layout) zone h some) ∙ lowest-role (r .layout) zone h some)
     ∙ ap (λ t. modeMessage r zone t true .receiver) (is-lowest (r .layout) zone h some)
 mode-acts r zone false v h some =
     let k = lowestOf (r .layout) zone in
-    ap (λ ro. byRole r k ro 0xB 127 .receiver) (held (r .layout) k h (lowest-lt-16 (r .layout) zone h some) ∙ lowest-role (r .layout) zone h some)
+    ap (λ ro. byRole r k ro 0xB 127 .receiver) (held (r .layout) k h (lowest-lt (r .layout) zone h some) ∙ lowest-role (r .layout) zone h some)
     ∙ ap (λ t. modeMessage r zone t false .receiver) (is-lowest (r .layout) zone h some)
 
 mono-zones : (r : MpeReceiver) (zone : MpeZone) (mono : Bool) → zonesOf (withMono r zone mono) ≡ withMono (zonesOf r) zone mono
@@ -235,7 +226,7 @@ mode-stage : {z : MpeReceiver} (e : End) (zone : MpeZone) (mono : Bool) (v : ℕ
     → Stage z e → Stage (withMono z zone mono) (told-all e (controlWord (lowestOf (z .layout) zone) (modeController mono) v ∷ []))
 mode-stage {z} e zone mono v h some hv s =
     let k = lowestOf (z .layout) zone in
-    let hk = lowest-lt-16 (z .layout) zone h some in
+    let hk = lowest-lt (z .layout) zone h some in
     let r = e .receiver in
     let same : r .layout ≡ z .layout = ap (λ y. y .layout) (s .zones) in
     let b = withReader e (readerAt (statusOf 0xB k) 0x80) in

@@ -20,9 +20,9 @@ use Rattle.mpe_receiver.specs.declared.MpeReceiver.{MpeReceiver}
 use Rattle.mpe_receiver.specs.State.{withBends, withPressures, withBrightnesses}
 use Rattle.mpe_receiver.specs.Receive.{stored}
 use Rattle.mpe_sender.specs.Writers.{controlWord}
-use Rattle.receiving_end.specs.declared.reader.Reader.{Reader}
+use Rattle.byte_reader.specs.declared.Reader.{Reader}
 use Rattle.receiving_end.specs.declared.end.End.{End}
-use Rattle.receiving_end.specs.Reader.{readerAt}
+use Rattle.byte_reader.specs.Reader.{readerAt}
 use Rattle.receiving_end.specs.End.{blank, withReader, withReceiver, withParameter, parameterAt}
 use Rattle.receiving_end.proofs.Parts.{statusOf, two-told, one-told}
 use Rattle.receiving_end.proofs.Tell.{control-told, other-told}

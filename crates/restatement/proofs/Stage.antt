@@ -15,7 +15,7 @@ use Rattle.parameters.specs.declared.Number.{Number}
 use Rattle.parameters.specs.State.{nullNumber, withRpn}
 use Rattle.mpe_layout.specs.declared.MpeLayout.{MpeLayout}
 use Rattle.mpe_receiver.specs.declared.MpeReceiver.{MpeReceiver}
-use Rattle.receiving_end.specs.declared.reader.Reader.{Reader}
+use Rattle.byte_reader.specs.declared.Reader.{Reader}
 use Rattle.receiving_end.specs.declared.end.End.{End}
 use Rattle.receiving_end.specs.End.{blank, withReader, withReceiver, withParameter, parameterAt}
 use Rattle.receiving_end.specs.WellFormed.{EndFormed}

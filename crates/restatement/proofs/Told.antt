@@ -9,7 +9,7 @@ use Rattle.ump.specs.Word.{oneData, wordOf}
 use Rattle.ump.proofs.Words.{PartsFit, opcode-of-word, channel-of-word, first-of-word, second-of-word}
 use Rattle.mpe_sender.specs.Writers.{controlWord, rpnGroup}
 use Rattle.receiving_end.specs.declared.end.End.{End}
-use Rattle.receiving_end.specs.Reader.{readerAt}
+use Rattle.byte_reader.specs.Reader.{readerAt}
 use Rattle.receiving_end.specs.End.{withReader, stepEnd}
 use Rattle.receiving_end.specs.Lists.{byteByValue, after, heard}
 use Rattle.receiving_end.specs.WellFormed.{EndFormed}

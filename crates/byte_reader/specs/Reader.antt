@@ -8,12 +8,12 @@ use lib.Dec.{ltb, eqb}
 use Rattle.ump.specs.Choice.{if_then_else_}
 use Rattle.ump.specs.Field.{field}
 use Rattle.ump.specs.Word.{wordForm, wordOf}
-use Rattle.receiving_end.specs.declared.reader.ByteClass.{ByteClass}
-use Rattle.receiving_end.specs.declared.reader.ByteClass.the-variants as class
-use Rattle.receiving_end.specs.declared.reader.Reader.{Reader}
-use Rattle.receiving_end.specs.declared.reader.Read.{Read}
-use Rattle.receiving_end.specs.declared.reader.Read.the-variants.{Quiet, Dropped, RealTime, Message}
-use Rattle.receiving_end.specs.declared.reader.ReadStep.{ReadStep}
+use Rattle.byte_reader.specs.declared.ByteClass.{ByteClass}
+use Rattle.byte_reader.specs.declared.ByteClass.the-variants as class
+use Rattle.byte_reader.specs.declared.Reader.{Reader}
+use Rattle.byte_reader.specs.declared.Read.{Read}
+use Rattle.byte_reader.specs.declared.Read.the-variants.{Quiet, Dropped, RealTime, Message}
+use Rattle.byte_reader.specs.declared.ReadStep.{ReadStep}
 
 abbrev pub readerAt : ℕ → ℕ → Reader
 readerAt status first = record { status = status; first = first }

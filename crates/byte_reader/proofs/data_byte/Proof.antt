@@ -1,13 +1,13 @@
--- `receiving_end::reader::data_byte` meets its contract.
+-- `byte_reader::data_byte` meets its contract.
 -- Assumes nothing.
 use borrow.Author.Needs.{needs}
 use Rattle.ump.proofs.Auto.{auto}
-use Rattle.receiving_end.specs.Reader.{dataStep}
+use Rattle.byte_reader.specs.Reader.{dataStep}
 use borrow.Author.Needs.{needs}
 use Rattle.ump.proofs.Auto.{auto}
-use Rattle.receiving_end.specs.Reader.{dataStep}
-use Rattle.receiving_end.proofs.reader.data_byte.Statement.{statement}
-use Rattle.receiving_end.proofs.reader.data_byte.Tie as tie
+use Rattle.byte_reader.specs.Reader.{dataStep}
+use Rattle.byte_reader.proofs.data_byte.Statement.{statement}
+use Rattle.byte_reader.proofs.data_byte.Tie as tie
 
 reading-requires : tie.Need-reading-requires
 reading-requires c κs = search needs

@@ -1,9 +1,9 @@
--- `receiving_end::reader::class_of` meets its contract.
+-- `byte_reader::class_of` meets its contract.
 -- Assumes nothing.
-use Rattle.receiving_end.proofs.reader.class_of.Statement.{statement}
-use Rattle.receiving_end.proofs.reader.class_of.Tie as tie
+use Rattle.byte_reader.proofs.class_of.Statement.{statement}
+use Rattle.byte_reader.proofs.class_of.Tie as tie
 use Rattle.ump.proofs.Auto.{auto}
-use Rattle.receiving_end.specs.Reader.{classOf}
+use Rattle.byte_reader.specs.Reader.{classOf}
 
 returns : tie.Need-returns
 unfolding classOf

@@ -1,11 +1,11 @@
--- `receiving_end::reader::data_of_two` meets its contract.
+-- `byte_reader::data_of_two` meets its contract.
 -- Assumes nothing.
 use borrow.Author.Needs.{needs}
 use Rattle.ump.proofs.Auto.{auto}
 use borrow.Author.Needs.{needs}
 use Rattle.ump.proofs.Auto.{auto}
-use Rattle.receiving_end.proofs.reader.data_of_two.Statement.{statement}
-use Rattle.receiving_end.proofs.reader.data_of_two.Tie as tie
+use Rattle.byte_reader.proofs.data_of_two.Statement.{statement}
+use Rattle.byte_reader.proofs.data_of_two.Tie as tie
 
 word-of-requires : tie.Need-word-of-requires
 word-of-requires c κs = search needs

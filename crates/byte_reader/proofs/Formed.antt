@@ -12,11 +12,11 @@ use Rattle.ump.specs.Field.{field}
 use Rattle.ump.specs.Word.{oneData, wordForm}
 use Rattle.ump.proofs.Cases.{by-test}
 use Rattle.ump.proofs.Words.{PartsFit, group-of-word, form-of-word}
-use Rattle.receiving_end.specs.declared.reader.Reader.{Reader}
-use Rattle.receiving_end.specs.declared.reader.Read.{Read}
-use Rattle.receiving_end.specs.declared.reader.Read.the-variants.{Quiet, Dropped, RealTime, Message}
-use Rattle.receiving_end.specs.declared.reader.ReadStep.{ReadStep}
-use Rattle.receiving_end.specs.Reader.{readerAt, newReader, reading, classOf, messageWord, secondData, dataStep, readStep, readAll, Sound, WordsFormed}
+use Rattle.byte_reader.specs.declared.Reader.{Reader}
+use Rattle.byte_reader.specs.declared.Read.{Read}
+use Rattle.byte_reader.specs.declared.Read.the-variants.{Quiet, Dropped, RealTime, Message}
+use Rattle.byte_reader.specs.declared.ReadStep.{ReadStep}
+use Rattle.byte_reader.specs.Reader.{readerAt, newReader, reading, classOf, messageWord, secondData, dataStep, readStep, readAll, Sound, WordsFormed}
 
 -- what holds of a step: the reader is sound, and a word that is made has its form
 record Fine (x : ReadStep) : Type 0 where

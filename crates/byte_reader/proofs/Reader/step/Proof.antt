@@ -1,8 +1,8 @@
--- `receiving_end::reader::Reader::step` meets its contract.
+-- `byte_reader::Reader::step` meets its contract.
 -- Assumes nothing.
 use borrow.Author.Needs.{needs}
-use Rattle.receiving_end.proofs.reader.Reader.step.Statement.{statement}
-use Rattle.receiving_end.proofs.reader.Reader.step.Tie as tie
+use Rattle.byte_reader.proofs.Reader.step.Statement.{statement}
+use Rattle.byte_reader.proofs.Reader.step.Tie as tie
 
 class-of-requires : tie.Need-class-of-requires
 class-of-requires c κs = search needs

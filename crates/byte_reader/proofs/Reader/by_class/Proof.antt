@@ -1,11 +1,11 @@
--- `receiving_end::reader::Reader::by_class` meets its contract.
+-- `byte_reader::Reader::by_class` meets its contract.
 -- Assumes nothing.
 use borrow.Author.Needs.{needs}
 use Rattle.ump.proofs.Auto.{auto}
 use borrow.Author.Needs.{needs}
 use Rattle.ump.proofs.Auto.{auto}
-use Rattle.receiving_end.proofs.reader.Reader.by_class.Statement.{statement}
-use Rattle.receiving_end.proofs.reader.Reader.by_class.Tie as tie
+use Rattle.byte_reader.proofs.Reader.by_class.Statement.{statement}
+use Rattle.byte_reader.proofs.Reader.by_class.Tie as tie
 
 enum-told : tie.Need-enum-told
 enum-told c = search needs

@@ -1,8 +1,8 @@
-// The byte reader: running status, and the first data byte of a begun message.
+// The byte reader (document 01, "A byte arrives"): running status, and the first data byte of a begun message.
 ghost use mathlib.Core.Path.{_≡_};
 ghost use Prim.Native.Nat.{_/_, _%_};
 ghost use Rattle.ump.specs.Word.{wordOf};
-ghost use Rattle.receiving_end.specs.Reader.{newReader, readerAt, reading as readAs, classOf, secondData, dataStep, classStep, readStep};
+ghost use Rattle.byte_reader.specs.Reader.{newReader, readerAt, reading as readAs, classOf, secondData, dataStep, classStep, readStep};
 
 // What kind of byte it is (MIDI 1.0, Table I).
 pub enum ByteClass {

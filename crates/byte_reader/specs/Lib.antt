@@ -1,0 +1,2 @@
+-- Definitions that the contracts cite: the byte reader.
+pub mod Reader
