@@ -18,6 +18,7 @@ pub enum ByteClass {
     RealTime,
 }
 
+#[repr(C)]
 pub struct Reader {
     // The running status, 80 to EF, or 0 for none.
     pub status: u8,

@@ -203,6 +203,7 @@ fn layout_for(zone: MpeZone, members: u8, other: u8) -> MpeLayout
 }
 
 // A layout: the member count of each zone.
+#[repr(C)]
 pub struct MpeLayout {
     pub lower: u8,
     pub upper: u8,

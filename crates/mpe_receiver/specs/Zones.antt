@@ -37,15 +37,6 @@ unfoldable pub putWhere : (ℕ → Bool) → ℕ → List ℕ → ℕ → List �
 putWhere hit v l zero = l
 putWhere hit v l (suc n) = if hit n then set (putWhere hit v l n) n v else putWhere hit v l n
 
--- one channel put to rest where a mask names it
-abbrev pub restAt : MpeReceiver → ℕ → ℕ → MpeReceiver
-restAt r mask n =
-    if named mask n then
-    withBends
-    (withPressures (withBrightnesses r (set (r .brightness) n 64)) (set (r .pressure) n 0))
-    (set (r .«pitch_bend») n 0x2000)
-    else r
-
 -- the channels below n that a mask names are put to rest: bend 0x2000, pressure 0, brightness 64
 abbrev pub restUpto : MpeReceiver → ℕ → ℕ → MpeReceiver
 restUpto r mask n =

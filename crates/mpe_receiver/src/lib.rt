@@ -5,7 +5,7 @@ ghost use Rattle.ump.specs.Packet.{packetValue};
 ghost use Rattle.mpe_layout.specs.Layout.{legal, layoutMade, roleFound, lowestFound};
 ghost use Rattle.mpe_layout.specs.Reset.{maskFound, named};
 ghost use Rattle.mpe_receiver.specs.State.{newReceiver, withLayout, withMono, monoOf};
-ghost use Rattle.mpe_receiver.specs.Zones.{slotOf, sensitivityAt, sensitivityPut, restAt, restUpto, relaid, activated, activatedIf, roleIn, roleHeld, layoutIn, announcedTo, maskIn, isLowest, isGiven, announcementResets, layoutResets};
+ghost use Rattle.mpe_receiver.specs.Zones.{slotOf, sensitivityAt, sensitivityPut, relaid, activated, activatedIf, roleIn, roleHeld, layoutIn, announcedTo, maskIn, isLowest, isGiven, announcementResets, layoutResets};
 ghost use Rattle.mpe_receiver.specs.Receive.{stored, saidByRpn, saidByParameter, saidByEvent, saidBy, announced, configuredBy, configured, sensitivityApplied, rpnZero, hearing, toMember, inMode4, modeMessage, onMember, byRole, sensitivityByRole, acted, heardOf, replyRead, receivedReply, receivedState, laidOut, setReply, setState};
 ghost use Rattle.mpe_receiver.specs.Read.{modeOf, sensitivityOf, bendAt, pressureAt, brightnessAt, managerOffset, memberOffset, offsetByRole, offsetOf, offsetRead};
 use mpe_layout::FoundRole;
@@ -57,6 +57,7 @@ enum Said {
 }
 
 // The layout, the mode and the two sensitivities of each zone, and the last bend, pressure and brightness of each channel.
+#[repr(C)]
 pub struct MpeReceiver {
     pub layout: MpeLayout,
     // Mode 4.
@@ -354,22 +355,6 @@ impl MpeReceiver {
         self
     }
 
-    // A channel that the mask names is put to rest.
-    fn rest(self, mask: u16, channel: u8) -> MpeReceiver
-        requires { ⌜ channel < 16 ⌝ }
-        ensures { λ r. ⌜ r ≡ restAt self mask channel ⌝ }
-    {
-        if names(mask, channel) {
-            let i = channel as usize;
-            let mut r = self;
-            r.pitch_bend[i] = 0x2000;
-            r.pressure[i] = 0;
-            r.brightness[i] = 64;
-            return r;
-        }
-        self
-    }
-
     // The layout changes, and every channel in the mask is put to rest.
     fn change_layout(self, after: MpeLayout, mask: u16) -> MpeReceiver
         ensures { λ r. ⌜ r ≡ relaid self after mask ⌝ }
@@ -377,7 +362,12 @@ impl MpeReceiver {
         let mut r = self;
         let mut i: u8 = 0;
         while i < 16 {
-            r = r.rest(mask, i);
+            if names(mask, i) {
+                let c = i as usize;
+                r.pitch_bend[c] = 0x2000;
+                r.pressure[c] = 0;
+                r.brightness[c] = 64;
+            }
             i += 1;
         }
         r.layout = after;

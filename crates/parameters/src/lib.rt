@@ -152,12 +152,14 @@ impl ParameterEvent {
 }
 
 // A parameter number: each half 0 to 127, or MISSING.
+#[repr(C)]
 pub struct Number {
     pub msb: u8,
     pub lsb: u8,
 }
 
 // The parameter receiver of one channel: both numbers, the kind stored last, and the reception of each kind.
+#[repr(C)]
 pub struct ParameterState {
     pub rpn: Number,
     pub nrpn: Number,

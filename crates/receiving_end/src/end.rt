@@ -25,6 +25,7 @@ use parameters::Selection;
 use ump::channel_voice1::channel;
 
 // A reader, the parameters of each channel, and one receiver.
+#[repr(C)]
 pub struct End {
     pub reader: Reader,
     pub parameters: [ParameterState; 16],

@@ -19,7 +19,7 @@ use Rattle.mpe_sender.specs.Zone.{channelAt, semitonesAt, zoneGroups, groupAt, 
 use Rattle.mpe_sender.proofs.Groups.{manager-lt, groups-length, channel-lt, semitones-le}
 use Rattle.mpe_sender.proofs.Zones.{members-in}
 use Rattle.restatement.specs.Settings.{zoneOf, membersIn, isMono, bendOf, pressureOf, brightnessOf, allowed}
-use Rattle.restatement.specs.Messages.{resetOn, resets, announcement, announcements, sensitivities, modes, deselectionOn, deselections, controlsOn, controls, messages, bytesOf, bytes, restatement, oneIfAny, messageCount, byteCount}
+use Rattle.restatement.specs.Messages.{resetOn, resets, announcement, announcements, sensitivities, modes, deselectionOn, deselections, controlsOn, controls, messages, bytesOf, bytes, restatement, oneIfAny, messageCount, byteCount, CountsHold}
 use Rattle.restatement.specs.declared.Settings.{Settings}
 use Rattle.restatement.proofs.Allowed.{allowed-legal, allowed-zone, allowed-channel}
 use Rattle.restatement.proofs.Sets.{each-length}
@@ -193,3 +193,6 @@ byte-count s h =
       deselections-bytes,
       controls-bytes s h,
     ))
+
+pub counts-hold : CountsHold
+counts-hold s h = (message-count s h, byte-count s h)

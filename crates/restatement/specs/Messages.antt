@@ -1,8 +1,10 @@
 -- The messages that restate settings, as words and as bytes (document 01, "Restatement").
 use Prim.Native.Nat.{ℕ, zero, suc, _+_, _*_, _-_, _/_, _%_, _^_}
 use mathlib.Core.Bool.{Bool, true, false}
+use mathlib.Core.Path.{_≡_}
 use mathlib.Core.List.{List, [], _∷_, _++_}
 use lib.Dec.{ltb, eqb}
+use lib.ListN.{length}
 use Rattle.ump.specs.Choice.{if_then_else_}
 use Rattle.ump.specs.Outcome.{Outcome, given, declined, outOfRange, tooSmall}
 use Rattle.ump.specs.Word.{opcodeOf, channelOf, firstOf, secondOf, oneData, wordOf}
@@ -103,6 +105,11 @@ messageCount l = 108 + 4 * (oneIfAny (l .lower) + oneIfAny (l .upper)) + 3 * (l 
 -- three bytes each, less one for each of the sixteen pressures
 unfoldable pub byteCount : MpeLayout → ℕ
 byteCount l = 3 * messageCount l - 16
+
+-- the formulas count the messages and the bytes that there are
+abbrev pub CountsHold : Type 0
+CountsHold =
+    (s : Settings) → allowed s ≡ true → (length (messages s) ≡ messageCount (s .layout)) × (length (restatement s) ≡ byteCount (s .layout))
 
 -- what a writer answers: settings out of range, then a buffer that is too small, else how many elements it wrote
 unfoldable pub restatedReply : Settings → ℕ → ℕ → Outcome ℕ

@@ -1,14 +1,17 @@
 -- `mpe_receiver::MpeReceiver::change_layout` meets its contract.
 -- Assumes nothing.
-use Rattle.mpe_receiver.proofs.MpeReceiver.change_layout.Statement.{statement}
-use Rattle.mpe_receiver.proofs.MpeReceiver.change_layout.Tie as tie
+use borrow.Author.Needs.{needs}
+use native.Mathlib.Omega.{arith}
 use Prim.Native.Nat.{_≤_, _-_}
 use mathlib.Core.Path.{_≡_, refl, ap, _∙_}
-use native.Mathlib.Omega.{arith}
-use native.Mathlib.Numerals.{add-one}
+use mathlib.Core.Bool.{true, false}
+use mathlib.Core.Logic.{⊎-elim}
+use Rattle.mpe_layout.specs.Reset.{named}
 use Rattle.mpe_receiver.specs.State.{withLayout}
-use Rattle.mpe_receiver.specs.Zones.{putWhere, restAt, restUpto, relaid}
-use Rattle.mpe_receiver.proofs.Rest.{rest-more}
+use Rattle.mpe_receiver.specs.Zones.{putWhere, restUpto, relaid}
+use Rattle.mpe_receiver.proofs.Rest.{rest-next}
+use Rattle.mpe_receiver.proofs.MpeReceiver.change_layout.Statement.{statement}
+use Rattle.mpe_receiver.proofs.MpeReceiver.change_layout.Tie as tie
 
 abbrev Inv-loop : tie.InvT-loop
 Inv-loop after mask r₀ i₀ r i = (i ≤ 16) × (r ≡ restUpto r₀ mask i)
@@ -20,8 +23,23 @@ loop-holds : tie.Need-loop-holds Inv-loop μ-loop
 unfolding putWhere
 loop-holds c = (omega arith, refl)
 
-rest-requires : tie.Need-rest-requires Inv-loop μ-loop
-rest-requires c κs = omega arith
+names-requires : tie.Need-names-requires Inv-loop μ-loop
+names-requires c κs = search needs
+
+cast-c : tie.Need-cast-c Inv-loop μ-loop
+cast-c c = omega arith
+
+mul-r : tie.Need-mul-r Inv-loop μ-loop
+mul-r c = omega arith
+
+element-write-r : tie.Need-element-write-r Inv-loop μ-loop
+element-write-r c = omega arith
+
+element-write-r-2 : tie.Need-element-write-r-2 Inv-loop μ-loop
+element-write-r-2 c = omega arith
+
+element-write-r-3 : tie.Need-element-write-r-3 Inv-loop μ-loop
+element-write-r-3 c = omega arith
 
 add-i : tie.Need-add-i Inv-loop μ-loop
 add-i c = omega arith
@@ -31,11 +49,14 @@ loop-less c = omega arith
 
 loop-again : tie.Need-loop-again Inv-loop μ-loop
 loop-again c =
-    let a = c .before .before .before .args in
-    let i = c .before .before .loop .i in (
+    let a = c .before .before .before .before .args in
+    let at = c .before .before .before .loop in
+    let next = rest-next (a .self) (a .mask) (at .i) (at .inv .1) in (
       omega arith,
-      rw add-one
-          (c .rest .ensures ∙ ap (λ x. restAt x (a .mask) i) (c .before .before .loop .inv .1) ∙ rest-more (a .self) (a .mask) i),
+      ⊎-elim
+          (λ w. let e : named (a .mask) (at .i) ≡ true = cc in next (rw e (w .1)))
+          (λ w. let e : named (a .mask) (at .i) ≡ false = cc in next (rw e (w .1)))
+          (c .if1 .came),
     )
 
 returns : tie.Need-returns Inv-loop μ-loop
@@ -48,4 +69,17 @@ returns c =
 pub change-layout-spec : {M : Type 1} → statement M
 change-layout-spec =
     tie.close
-    (tie.spec Inv-loop μ-loop loop-holds rest-requires add-i loop-less loop-again returns)
+    (tie.spec
+    Inv-loop
+    μ-loop
+    loop-holds
+    names-requires
+    cast-c
+    mul-r
+    element-write-r
+    element-write-r-2
+    element-write-r-3
+    add-i
+    loop-less
+    loop-again
+    returns)

@@ -1,0 +1,2 @@
+-- Definitions that the contracts cite: runs of calls.
+pub mod Runs

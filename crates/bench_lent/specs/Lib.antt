@@ -1,0 +1,2 @@
+-- Definitions that the contracts cite: replies as numbers.
+pub mod Code
