@@ -1,10 +1,10 @@
 -- Group B: after Lower 7, Upper 7 and the two member counts of a legal layout, the zones are these, with default sensitivities and mode 3.
 -- Assumes nothing.
-use Prim.Native.Nat.{ℕ, zero, suc, _+_, _-_, _<_, _≤_}
+use Prim.Native.Nat.{ℕ, _+_, _-_, _<_, _≤_}
 use mathlib.Core.Path.{_≡_, refl, ap, sym, _∙_, subst}
 use mathlib.Core.Bool.{true, false}
 use mathlib.Core.List.{List, [], _∷_, _++_}
-use mathlib.Core.Logic.{_⊎_, inl, inr, ⊎-elim}
+use mathlib.Core.Logic.{⊎-elim}
 use native.Mathlib.Omega.{arith}
 use lib.Dec.{ltb, leb, eqb}
 use lib.ListN.{length}
@@ -17,7 +17,7 @@ use Rattle.mpe_layout.specs.declared.MpeZone.{MpeZone}
 use Rattle.mpe_layout.specs.declared.MpeZone.the-variants.{Lower, Upper}
 use Rattle.mpe_layout.specs.declared.MpeLayout.{MpeLayout}
 use Rattle.mpe_layout.specs.Layout.{layoutOf, legal, managerOf, leftBeside, withMcm}
-use Rattle.mpe_layout.proofs.Legal.{Bounds, legal-bounds}
+use Rattle.mpe_layout.proofs.Legal.{Bounds, sides, legal-bounds}
 use Rattle.mpe_receiver.specs.declared.MpeReceiver.{MpeReceiver}
 use Rattle.mpe_receiver.specs.State.{withLayout}
 use Rattle.mpe_receiver.specs.Zones.{relaid, activated, activatedIf, announcedTo, announcementResets}
@@ -30,7 +30,8 @@ use Rattle.receiving_end.specs.Lists.{heard}
 use Rattle.receiving_end.proofs.Parts.{statusOf}
 use Rattle.receiving_end.proofs.Numbers.{entryOf, entry-heard}
 use Rattle.restatement.specs.Messages.{announcement, announcements, bytes}
-use Rattle.restatement.proofs.Told.{told-all, told-append, group-bytes, heard-formed}
+use Rattle.restatement.proofs.Bytes.{group-bytes}
+use Rattle.restatement.proofs.Told.{told-all, told-append, heard-formed}
 use Rattle.restatement.proofs.Stage.{cleared-with, zonesAt, zonesOf, Stage, stage-at}
 
 -- RPN 6 with a data entry on a manager announces its zone
@@ -114,10 +115,6 @@ unfolding activated
 defaults-stay l Lower v = by-test (ltb 0 v) (λ e. rw e) (λ e. rw e)
 defaults-stay l Upper v = by-test (ltb 0 v) (λ e. rw e) (λ e. rw e)
 
-zero-or-more : (n : ℕ) → (n ≡ 0) ⊎ (0 < n)
-zero-or-more zero = inl refl
-zero-or-more (suc n) = inr (omega arith)
-
 -- a zone keeps the members that a legal layout gives it beside the other
 left-kept : (members other : ℕ) → Bounds other members → leftBeside members other ≡ other
 unfolding leftBeside
@@ -127,11 +124,13 @@ left-kept members other b =
     (λ e. rw e
     (let some : members ≡ 0 → ⊥ = eqb-false members 0 e in
     ⊎-elim
-    (λ (z : other ≡ 0). by-test (leb 14 members) (λ f. rw (f, z)) (λ f. rw (f, le-ltb (14 - members) other (omega arith))))
     (λ (p : 0 < other).
     let both : other + members ≤ 14 = b .in-both p (omega arith) in
     rw (lt-leb 14 members (omega arith), le-ltb (14 - members) other (omega arith)))
-    (zero-or-more other)))
+    (λ (p : other ≤ 0).
+    let z : other ≡ 0 = omega arith in
+    by-test (leb 14 members) (λ f. rw (f, z)) (λ f. rw (f, le-ltb (14 - members) other (omega arith))))
+    (sides 0 other)))
 
 restated-layout : (l : MpeLayout) → legal l ≡ true → withMcm (withMcm (layoutOf 7 7) Lower (l .lower)) Upper (l .upper) ≡ l
 unfolding withMcm

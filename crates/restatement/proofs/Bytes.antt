@@ -1,6 +1,6 @@
--- The bytes of a message: two or three by its opcode, and the bytes of one list of messages after another's.
+-- The bytes of a message: its status byte and two data bytes, or one by its opcode; and the bytes of one list of messages after another's.
 -- Assumes nothing.
-use Prim.Native.Nat.{ℕ, zero, suc, _+_, _*_, _-_, _<_, _≤_}
+use Prim.Native.Nat.{ℕ, zero, suc, _+_, _*_, _-_, _/_, _%_, _^_, _<_, _≤_}
 use mathlib.Core.Path.{_≡_, refl, ap, ap₂, sym, _∙_}
 use mathlib.Core.Bool.{true, false}
 use mathlib.Core.List.{List, [], _∷_, _++_, append-assoc, append-nil}
@@ -12,8 +12,10 @@ use lib.Seq.{take-suc, take-add}
 use borrow.Author.Tests.{eq-eqb, ne-eqb}
 use Rattle.ump.specs.Word.{oneData, opcodeOf, wordOf}
 use Rattle.ump.proofs.Cases.{by-test}
-use Rattle.ump.proofs.Words.{PartsFit, opcode-of-word}
+use Rattle.ump.proofs.Words.{PartsFit, opcode-of-word, channel-of-word, first-of-word, second-of-word}
 use Rattle.mpe_sender.specs.Writers.{controlWord, rpnGroup}
+use Rattle.receiving_end.proofs.Parts.{statusOf}
+use Rattle.receiving_end.proofs.Numbers.{control}
 use Rattle.restatement.specs.Messages.{eachChannel, bytesOf, bytes}
 
 -- Program Change and Channel Pressure have one data byte, the others two
@@ -35,29 +37,43 @@ length-two w e = rw e
 pub length-least : (w : ℕ) → 2 ≤ length (bytesOf w)
 length-least w = by-test (oneData (opcodeOf w)) (λ e. omega (arith, length-one w e)) (λ e. omega (arith, length-two w e))
 
--- of the word of five parts
-pub bytes-two : (g o k a b : ℕ) → PartsFit g o k a b → oneData o ≡ true → length (bytesOf (wordOf g o k a b)) ≡ 2
-bytes-two g o k a b fit e = length-one (wordOf g o k a b) (rw (opcode-of-word g o k a b fit) e)
+-- the bytes of a message with two data bytes, and with one
+module _ (o k a b : ℕ) (fit : PartsFit 0 o k a b) where
+  pub two-bytes : oneData o ≡ false → bytesOf (wordOf 0 o k a b) ≡ statusOf o k ∷ a ∷ b ∷ []
+  two-bytes two =
+      rw (opcode-of-word 0 o k a b fit, channel-of-word 0 o k a b fit, first-of-word 0 o k a b fit, second-of-word 0 o k a b fit, two)
 
-pub bytes-three : (g o k a b : ℕ) → PartsFit g o k a b → oneData o ≡ false → length (bytesOf (wordOf g o k a b)) ≡ 3
-bytes-three g o k a b fit e = length-two (wordOf g o k a b) (rw (opcode-of-word g o k a b fit) e)
+  pub one-byte : oneData o ≡ true → bytesOf (wordOf 0 o k a b) ≡ statusOf o k ∷ a ∷ []
+  one-byte one =
+      rw (opcode-of-word 0 o k a b fit, channel-of-word 0 o k a b fit, first-of-word 0 o k a b fit, one)
 
-pub control-bytes : (k controller value : ℕ) → k < 16 → controller < 128 → value < 128 → length (bytesOf (controlWord k controller value)) ≡ 3
-control-bytes k controller value h a v =
-    bytes-three 0 0xB k controller value
-    (record { group-lt = omega arith; opcode-lt = omega arith; channel-lt = h; first-lt = a; second-lt = v })
+pub control-bytes : (k a b : ℕ) → k < 16 → a < 0x80 → b < 0x80 → bytesOf (controlWord k a b) ≡ control k a b
+control-bytes k a b hk ha hb =
+    two-bytes 0xB k a b
+    (record { group-lt = omega arith; opcode-lt = omega arith; channel-lt = hk; first-lt = omega arith; second-lt = omega arith })
     refl
 
-pub group-bytes : (k msb lsb value : ℕ) → k < 16 → msb < 128 → lsb < 128 → value < 128 → length (bytes (rpnGroup k msb lsb value)) ≡ 9
+pub bend-bytes : (k v : ℕ) → k < 16 → v < 2 ^ 14 → bytesOf (wordOf 0 0xE k (v % 2 ^ 7) (v / 2 ^ 7)) ≡ statusOf 0xE k ∷ v % 2 ^ 7 ∷ v / 2 ^ 7 ∷ []
+bend-bytes k v hk hv =
+    two-bytes 0xE k (v % 2 ^ 7) (v / 2 ^ 7)
+    (record { group-lt = omega arith; opcode-lt = omega arith; channel-lt = hk; first-lt = omega arith; second-lt = omega arith })
+    refl
+
+pub pressure-bytes : (k v : ℕ) → k < 16 → v < 0x80 → bytesOf (wordOf 0 0xD k v 0) ≡ statusOf 0xD k ∷ v ∷ []
+pressure-bytes k v hk hv =
+    one-byte 0xD k v 0
+    (record { group-lt = omega arith; opcode-lt = omega arith; channel-lt = hk; first-lt = omega arith; second-lt = omega arith })
+    refl
+
+-- the three messages of a registered parameter's data entry
+pub group-bytes : (k l v : ℕ) → k < 16 → l < 0x80 → v < 0x80 → bytes (rpnGroup k 0 l v) ≡ control k 101 0 ++ control k 100 l ++ control k 6 v
 unfolding bytes
-group-bytes k msb lsb value h m l v =
-    simp length-append
-    (omega (
-      arith,
-      control-bytes k 101 msb h (omega arith) m,
-      control-bytes k 100 lsb h (omega arith) l,
-      control-bytes k 6 value h (omega arith) v,
-    ))
+group-bytes k l v hk hl hv =
+    rw (
+      control-bytes k 101 0 hk (omega arith) (omega arith),
+      control-bytes k 100 l hk (omega arith) hl,
+      control-bytes k 6 v hk (omega arith) hv,
+    )
 
 -- of one list and then another
 pub bytes-append : (u v : List ℕ) → bytes (u ++ v) ≡ bytes u ++ bytes v

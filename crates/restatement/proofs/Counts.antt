@@ -1,7 +1,7 @@
 -- How many messages a restatement has, and how many bytes.
 -- Assumes nothing.
-use Prim.Native.Nat.{ℕ, zero, suc, _+_, _*_, _%_, _/_, _^_, _<_, _≤_}
-use mathlib.Core.Path.{_≡_, refl, _∙_}
+use Prim.Native.Nat.{ℕ, zero, suc, _+_, _*_, _<_, _≤_}
+use mathlib.Core.Path.{_≡_, refl, ap, _∙_}
 use mathlib.Core.Bool.{true, false}
 use mathlib.Core.List.{append-nil}
 use native.Mathlib.Numerals.{add-one}
@@ -24,7 +24,7 @@ use Rattle.restatement.specs.declared.Settings.{Settings}
 use Rattle.restatement.proofs.Allowed.{allowed-legal, allowed-zone, allowed-channel}
 use Rattle.restatement.proofs.Sets.{each-length}
 use Rattle.restatement.proofs.Made.{lowest-lt}
-use Rattle.restatement.proofs.Bytes.{bytes-two, bytes-three, control-bytes, group-bytes, append-length, each-bytes}
+use Rattle.restatement.proofs.Bytes.{control-bytes, group-bytes, append-length, each-bytes, bend-bytes, pressure-bytes}
 
 pub one-le : (members : ℕ) → oneIfAny members ≤ 1
 one-le members = by-test (eqb members 0) (λ e. rw e (omega arith)) (λ e. rw e (omega arith))
@@ -96,7 +96,7 @@ most-messages l h =
 resets-bytes : length (bytes resets) ≡ 48
 unfolding bytes
 resets-bytes =
-    each-bytes resetOn 3 16 (λ k l. simp length-append (omega (arith, control-bytes k 121 0 l (omega arith) (omega arith))))
+    each-bytes resetOn 3 16 (λ k l. simp length-append (omega (arith, ap length (control-bytes k 121 0 l (omega arith) (omega arith)))))
 
 announcements-bytes : (l : MpeLayout) → legal l ≡ true → length (bytes (announcements l)) ≡ 36
 announcements-bytes l h =
@@ -110,7 +110,7 @@ announcements-bytes l h =
     ))
   where
     of-zone : (zone : MpeZone) (members : ℕ) → members ≤ 15 → length (bytes (announcement zone members)) ≡ 9
-    of-zone zone members b = group-bytes (managerOf zone) 0 6 members (manager-lt zone) (omega arith) (omega arith) (omega arith)
+    of-zone zone members b = ap length (group-bytes (managerOf zone) 6 members (manager-lt zone) (omega arith) (omega arith))
 
 groups-bytes : (manager lowest a b n : ℕ) → InRange (zoneGroups manager lowest a b) n → length (bytes (groups (zoneGroups manager lowest a b) n)) ≡ 9 * n
 unfolding groups bytes
@@ -123,7 +123,7 @@ groups-bytes manager lowest a b (suc n) r =
     ∙ omega (
       arith,
       groups-bytes manager lowest a b n q,
-      group-bytes (channelAt manager lowest n) 0 0 (semitonesAt a b n) (channel-lt z n t) (omega arith) (omega arith) (omega (arith, semitones-le z n (n + 1) t)),
+      ap length (group-bytes (channelAt manager lowest n) 0 (semitonesAt a b n) (channel-lt z n t) (omega arith) (omega (arith, semitones-le z n (n + 1) t))),
     )
 
 sensitivities-bytes : (s : Settings) (zone : MpeZone) → allowed s ≡ true → length (bytes (sensitivities s zone)) ≡ 3 * length (sensitivities s zone)
@@ -148,8 +148,8 @@ modes-bytes s zone h =
     (λ e.
     let g = allowed-legal s h in
     let lt = lowest-lt (s .layout) zone g (omega (arith, eqb-false (membersIn s zone) 0 e)) in
-    let mono = control-bytes (lowestOf (s .layout) zone) 126 (membersIn s zone) lt (omega arith) (omega (arith, members-le (s .layout) zone g)) in
-    let poly = control-bytes (lowestOf (s .layout) zone) 127 0 lt (omega arith) (omega arith) in
+    let mono = ap length (control-bytes (lowestOf (s .layout) zone) 126 (membersIn s zone) lt (omega arith) (omega (arith, members-le (s .layout) zone g))) in
+    let poly = ap length (control-bytes (lowestOf (s .layout) zone) 127 0 lt (omega arith) (omega arith)) in
     rw (e, append-nil) (of-both (λ w. length (bytesOf w) ≡ 3) (isMono (zoneOf s zone)) mono poly))
 
 deselections-bytes : length (bytes deselections) ≡ 96
@@ -157,7 +157,7 @@ unfolding bytes
 deselections-bytes =
     each-bytes deselectionOn 6 16
     (λ k l. simp length-append
-    (omega (arith, control-bytes k 101 127 l (omega arith) (omega arith), control-bytes k 100 127 l (omega arith) (omega arith))))
+    (omega (arith, ap length (control-bytes k 101 127 l (omega arith) (omega arith)), ap length (control-bytes k 100 127 l (omega arith) (omega arith)))))
 
 controls-bytes : (s : Settings) → allowed s ≡ true → length (bytes (controls s)) ≡ 128
 unfolding bytes
@@ -165,13 +165,9 @@ controls-bytes s h =
     each-bytes (controlsOn s) 8 16
     (λ k l.
     let f = allowed-channel s h k l in
-    let bend = bytes-three 0 0xE k (bendOf s k % 2 ^ 7) (bendOf s k / 2 ^ 7)
-    (record { group-lt = omega arith; opcode-lt = omega arith; channel-lt = l; first-lt = omega arith; second-lt = omega (arith, f .0) })
-    refl in
-    let pressure = bytes-two 0 0xD k (pressureOf s k) 0
-    (record { group-lt = omega arith; opcode-lt = omega arith; channel-lt = l; first-lt = omega (arith, f .1); second-lt = omega arith })
-    refl in
-    simp length-append (omega (arith, bend, control-bytes k 74 (brightnessOf s k) l (omega arith) (omega (arith, f .2)), pressure)))
+    let bend = ap length (bend-bytes k (bendOf s k) l (omega (arith, f .0))) in
+    let pressure = ap length (pressure-bytes k (pressureOf s k) l (omega (arith, f .1))) in
+    simp length-append (omega (arith, bend, ap length (control-bytes k 74 (brightnessOf s k) l (omega arith) (omega (arith, f .2))), pressure)))
 
 -- three bytes each, less one for each pressure
 pub byte-count : (s : Settings) → allowed s ≡ true → length (restatement s) ≡ byteCount (s .layout)

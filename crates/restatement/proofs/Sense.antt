@@ -44,7 +44,8 @@ use Rattle.restatement.specs.Settings.{zoneOf, membersIn, isMono, allowe
 use Rattle.restatement.specs.Messages.{bytes, sensitivities, modes}
 use Rattle.restatement.proofs.Allowed.{allowed-legal, allowed-zone}
 use Rattle.restatement.proofs.Made.{lowest-lt}
-use Rattle.restatement.proofs.Told.{told-all, told-append, control-all, group-bytes, heard-formed}
+use Rattle.restatement.proofs.Bytes.{group-bytes}
+use Rattle.restatement.proofs.Told.{told-all, told-append, control-all, heard-formed}
 use Rattle.restatement.proofs.Stage.{cleared-with, zonesOf, Stage, stage-at}
 
 -- the role of a zone's manager or members

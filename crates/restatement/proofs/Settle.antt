@@ -13,7 +13,6 @@ use borrow.Author.Tests.{eqb-true, eqb-false}
 use lib.Seq.{getD-set-same, getD-set-other, set-set, set-getD}
 use Rattle.ump.specs.Word.{wordOf}
 use Rattle.ump.proofs.Cases.{by-test}
-use Rattle.ump.proofs.Words.{PartsFit}
 use Rattle.parameters.specs.declared.ParameterState.{ParameterState}
 use Rattle.parameters.specs.State.{number, nullNumber, withRpn, numberStored}
 use Rattle.mpe_receiver.specs.declared.MpeReceiver.{MpeReceiver}
@@ -30,7 +29,8 @@ use Rattle.restatement.specs.declared.Settings.{Settings}
 use Rattle.restatement.specs.Settings.{bendOf, pressureOf, brightnessOf, allowed}
 use Rattle.restatement.specs.Messages.{deselectionOn, deselections, controlsOn, controls, bytes}
 use Rattle.restatement.proofs.Allowed.{allowed-channel}
-use Rattle.restatement.proofs.Told.{told-all, told-append, two-bytes, one-byte, control-all, heard-formed, each-told}
+use Rattle.restatement.proofs.Bytes.{bend-bytes, pressure-bytes}
+use Rattle.restatement.proofs.Told.{told-all, told-append, control-all, heard-formed, each-told}
 use Rattle.restatement.proofs.Stage.{Cleared, cleared-with, zonesOf, Stage, all-set, stage-at}
 
 -- both numbers null, the registered kind last, and the switches as new
@@ -117,8 +117,7 @@ bend-told : (e : End) (k v : ℕ) → k < 16 → v < 2 ^ 14
 unfolding bytes stored
 bend-told e k v hk hv =
     let back : v / 2 ^ 7 * 128 + v % 2 ^ 7 ≡ v = omega arith in
-    let fit : PartsFit 0 0xE k (v % 2 ^ 7) (v / 2 ^ 7) = record { group-lt = omega arith; opcode-lt = omega arith; channel-lt = hk; first-lt = omega arith; second-lt = omega arith } in
-    rw (two-bytes 0xE k (v % 2 ^ 7) (v / 2 ^ 7) fit refl)
+    rw (bend-bytes k v hk hv)
     (two-told e 0xE k (v % 2 ^ 7) (v / 2 ^ 7) (inr refl) (omega arith) hk (omega arith) (omega arith)
     ∙ other-told (withReader e (readerAt (statusOf 0xE k) 0x80)) 0xE k (v % 2 ^ 7) (v / 2 ^ 7) (λ z. omega arith)
     ∙ same-parameters e (readerAt (statusOf 0xE k) 0x80) k (withBends (e .receiver) (set (e .receiver .«pitch_bend») k (v / 2 ^ 7 * 128 + v % 2 ^ 7)))
@@ -138,8 +137,7 @@ pressure-told : (e : End) (k v : ℕ) → k < 16 → v < 0x80
     → told-all e (wordOf 0 0xD k v 0 ∷ []) ≡ only e (readerAt (statusOf 0xD k) 0x80) (withPressures (e .receiver) (set (e .receiver .pressure) k v))
 unfolding bytes stored
 pressure-told e k v hk hv =
-    let fit : PartsFit 0 0xD k v 0 = record { group-lt = omega arith; opcode-lt = omega arith; channel-lt = hk; first-lt = omega arith; second-lt = omega arith } in
-    rw (one-byte 0xD k v 0 fit refl)
+    rw (pressure-bytes k v hk hv)
     (one-told e 0xD k v (omega arith) (omega arith) hk hv
     ∙ other-told (withReader e (readerAt (statusOf 0xD k) 0x80)) 0xD k v 0 (λ z. omega arith)
     ∙ same-parameters e (readerAt (statusOf 0xD k) 0x80) k (withPressures (e .receiver) (set (e .receiver .pressure) k v)))

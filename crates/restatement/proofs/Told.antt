@@ -1,13 +1,10 @@
 -- Messages as bytes: their bytes one after another, and an end that hears them stays well formed.
 -- Assumes nothing.
 use Prim.Native.Nat.{ℕ, zero, suc, _<_, _≤_}
-use mathlib.Core.Path.{_≡_, refl, ap, sym, _∙_, subst}
-use mathlib.Core.Bool.{true, false}
+use mathlib.Core.Path.{_≡_, ap, sym, _∙_, subst}
 use mathlib.Core.List.{List, [], _∷_, _++_}
 use native.Mathlib.Omega.{arith}
-use Rattle.ump.specs.Word.{oneData, wordOf}
-use Rattle.ump.proofs.Words.{PartsFit, opcode-of-word, channel-of-word, first-of-word, second-of-word}
-use Rattle.mpe_sender.specs.Writers.{controlWord, rpnGroup}
+use Rattle.mpe_sender.specs.Writers.{controlWord}
 use Rattle.receiving_end.specs.declared.end.End.{End}
 use Rattle.byte_reader.specs.Reader.{readerAt}
 use Rattle.receiving_end.specs.End.{withReader, stepEnd}
@@ -15,10 +12,10 @@ use Rattle.receiving_end.specs.Lists.{byteByValue, after, heard}
 use Rattle.receiving_end.specs.WellFormed.{EndFormed}
 use Rattle.receiving_end.proofs.Bytes.{heard-append}
 use Rattle.receiving_end.proofs.Parts.{told, statusOf}
-use Rattle.receiving_end.proofs.Numbers.{control, control-heard}
+use Rattle.receiving_end.proofs.Numbers.{control-heard}
 use Rattle.receiving_end.proofs.Always.{after-formed}
-use Rattle.restatement.specs.Messages.{eachChannel, bytesOf, bytes}
-use Rattle.restatement.proofs.Bytes.{bytes-append}
+use Rattle.restatement.specs.Messages.{eachChannel, bytes}
+use Rattle.restatement.proofs.Bytes.{bytes-append, control-bytes}
 
 -- an end that hears messages
 abbrev pub told-all : End → List ℕ → End
@@ -27,36 +24,10 @@ told-all e ws = heard e (bytes ws)
 pub told-append : (e : End) (a b : List ℕ) → told-all e (a ++ b) ≡ told-all (told-all e a) b
 told-append e a b = ap (heard e) (bytes-append a b) ∙ heard-append e (bytes a) (bytes b)
 
--- the bytes of a message with two data bytes, and with one
-module _ (o k a b : ℕ) (fit : PartsFit 0 o k a b) where
-  pub two-bytes : oneData o ≡ false → bytesOf (wordOf 0 o k a b) ≡ statusOf o k ∷ a ∷ b ∷ []
-  two-bytes two =
-      rw (opcode-of-word 0 o k a b fit, channel-of-word 0 o k a b fit, first-of-word 0 o k a b fit, second-of-word 0 o k a b fit, two)
-
-  pub one-byte : oneData o ≡ true → bytesOf (wordOf 0 o k a b) ≡ statusOf o k ∷ a ∷ []
-  one-byte one =
-      rw (opcode-of-word 0 o k a b fit, channel-of-word 0 o k a b fit, first-of-word 0 o k a b fit, one)
-
-pub control-bytes : (k a b : ℕ) → k < 16 → a < 0x80 → b < 0x80 → bytesOf (controlWord k a b) ≡ control k a b
-control-bytes k a b hk ha hb =
-    two-bytes 0xB k a b
-    (record { group-lt = omega arith; opcode-lt = omega arith; channel-lt = hk; first-lt = omega arith; second-lt = omega arith })
-    refl
-
 pub control-all : (e : End) (k a b : ℕ) → k < 16 → a < 0x80 → b < 0x80
     → told-all e (controlWord k a b ∷ []) ≡ told (withReader e (readerAt (statusOf 0xB k) 0x80)) 0xB k a b
 unfolding bytes
 control-all e k a b hk ha hb = rw (control-bytes k a b hk ha hb) (control-heard e k a b hk ha hb)
-
--- the three messages of a registered parameter's data entry
-pub group-bytes : (k l v : ℕ) → k < 16 → l < 0x80 → v < 0x80 → bytes (rpnGroup k 0 l v) ≡ control k 101 0 ++ control k 100 l ++ control k 6 v
-unfolding bytes
-group-bytes k l v hk hl hv =
-    rw (
-      control-bytes k 101 0 hk (omega arith) (omega arith),
-      control-bytes k 100 l hk (omega arith) hl,
-      control-bytes k 6 v hk (omega arith) hv,
-    )
 
 step-formed : (e : End) (b : ℕ) → EndFormed e → EndFormed (stepEnd e b)
 unfolding after
