@@ -6,9 +6,9 @@ use mpe_allocator::NoteOn;
 use mpe_layout::MpeLayout;
 
 // The allocator after an item, and the answer.
-pub struct AllocatorTold {
-    pub allocator: MpeNoteAllocator,
-    pub line: Line,
+pub(crate) struct AllocatorTold {
+    pub(crate) allocator: MpeNoteAllocator,
+    pub(crate) line: Line,
 }
 
 // What `note_on` answers.
@@ -61,7 +61,7 @@ fn changed(allocator: MpeNoteAllocator, operation: u8, argument: u8) -> MpeNoteA
 }
 
 // Answers the item, on an allocator.
-pub fn answer(allocator: MpeNoteAllocator, item: &[u8; 80]) -> AllocatorTold {
+pub(crate) fn answer(allocator: MpeNoteAllocator, item: &[u8; 80]) -> AllocatorTold {
     let operation = item[0];
     if operation == 0x61 {
         return note_on(allocator, item);

@@ -5,22 +5,22 @@ use parameters::ParameterChange;
 use ump::controller::Rpn;
 
 // Two bytes, highest first.
-pub fn two(a: u8, b: u8) -> u16 {
+pub(crate) fn two(a: u8, b: u8) -> u16 {
     (a as u16) << 8 | (b as u16)
 }
 
 // Four bytes, highest first.
-pub fn four(a: u8, b: u8, c: u8, d: u8) -> u32 {
+pub(crate) fn four(a: u8, b: u8, c: u8, d: u8) -> u32 {
     (a as u32) << 24 | (b as u32) << 16 | (c as u32) << 8 | (d as u32)
 }
 
 // Four bytes, highest first, as a signed number.
-pub fn signed(a: u8, b: u8, c: u8, d: u8) -> i32 {
+pub(crate) fn signed(a: u8, b: u8, c: u8, d: u8) -> i32 {
     (a as i32) << 24 | (b as i32) << 16 | (c as i32) << 8 | (d as i32)
 }
 
 // A zone: 0 is Lower, anything else Upper.
-pub fn zone(byte: u8) -> MpeZone {
+pub(crate) fn zone(byte: u8) -> MpeZone {
     if byte == 0 {
         return MpeZone::Lower;
     }
@@ -28,7 +28,7 @@ pub fn zone(byte: u8) -> MpeZone {
 }
 
 // P, a parameter.
-pub fn parameter(kind: u8, msb: u8, lsb: u8) -> Parameter {
+pub(crate) fn parameter(kind: u8, msb: u8, lsb: u8) -> Parameter {
     if kind == 0 {
         return Parameter::Registered(Rpn::from_parts(msb, lsb));
     }
@@ -39,7 +39,7 @@ pub fn parameter(kind: u8, msb: u8, lsb: u8) -> Parameter {
 }
 
 // C, a change.
-pub fn change(kind: u8, byte: u8) -> ParameterChange {
+pub(crate) fn change(kind: u8, byte: u8) -> ParameterChange {
     if kind == 0 {
         return ParameterChange::DataEntryMsb(byte);
     }

@@ -11,9 +11,9 @@ use receiving_end::end::byte_of;
 use receiving_end::end::step;
 
 // The end after an item, and the answer.
-pub struct EndTold {
-    pub end: End,
-    pub line: Line,
+pub(crate) struct EndTold {
+    pub(crate) end: End,
+    pub(crate) line: Line,
 }
 
 // What a byte gets.
@@ -93,7 +93,7 @@ fn changed(end: End, operation: u8, c: u8, on: bool) -> End {
 }
 
 // Answers the item, on an end.
-pub fn answer(end: End, item: &[u8; 80]) -> EndTold {
+pub(crate) fn answer(end: End, item: &[u8; 80]) -> EndTold {
     let operation = item[0];
     if operation == 0x01 {
         return stepped(step(end, item[1]));

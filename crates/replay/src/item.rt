@@ -6,33 +6,33 @@ ghost use Prim.Native.Nat.{_<_, _≤_};
 ghost use lib.ListN.{length as long};
 
 // An item that is being read: how many of its bytes are there, and where its text goes on.
-pub struct Begun {
-    pub count: usize,
-    pub place: Place,
+pub(crate) struct Begun {
+    pub(crate) count: usize,
+    pub(crate) place: Place,
 }
 
 // What has become of an item.
-pub enum Found {
+pub(crate) enum Found {
     More,
     Whole,
     Broken,
 }
 
 // An item after a character.
-pub struct Step {
-    pub begun: Begun,
-    pub found: Found,
+pub(crate) struct Step {
+    pub(crate) begun: Begun,
+    pub(crate) found: Found,
 }
 
 // An item after a part of the text, and where the rest of the text begins.
-pub struct Part {
-    pub begun: Begun,
-    pub found: Found,
-    pub at: usize,
+pub(crate) struct Part {
+    pub(crate) begun: Begun,
+    pub(crate) found: Found,
+    pub(crate) at: usize,
 }
 
 // The length of an item in bytes, with its operation; 0 for an unknown operation.
-pub fn length(operation: u8) -> usize {
+pub(crate) fn length(operation: u8) -> usize {
     match operation {
         0x00 | 0x06 | 0x34 | 0x36 | 0x39 | 0x40 | 0x43 | 0x60 | 0x64 | 0x65 => 1,
         0x01 | 0x02 | 0x07 | 0x37 | 0x38 | 0x44 | 0x62 | 0x63 => 2,
@@ -79,7 +79,7 @@ fn judged(bytes: &[u8; 80], count: usize) -> Found {
 }
 
 impl Begun {
-    pub fn new() -> Begun {
+    pub(crate) fn new() -> Begun {
         Begun {
             count: 0,
             place: Place::Apart,
@@ -95,7 +95,7 @@ impl Begun {
     }
 
     // The input may end here: in no item and in no pair.
-    pub fn may_end(self) -> bool {
+    pub(crate) fn may_end(self) -> bool {
         if self.count != 0 {
             return false;
         }
@@ -142,7 +142,7 @@ impl Begun {
     }
 
     // The item after the characters of `text` from `from` on, up to the one that makes it whole or breaks it.
-    pub fn read(self, bytes: &mut [u8; 80], text: &[u8], from: usize) -> Part
+    pub(crate) fn read(self, bytes: &mut [u8; 80], text: &[u8], from: usize) -> Part
         requires { ⌜ from < long (now text) ⌝ }
         ensures { λ r. ⌜ from < r .at ⌝ }
     {

@@ -55,7 +55,7 @@ fn activity(answer: Activity) -> Line {
 }
 
 // Answers the item.
-pub fn answer(item: &[u8; 80]) -> Line {
+pub(crate) fn answer(item: &[u8; 80]) -> Line {
     let operation = item[0];
     let layout = MpeLayout {
         lower: item[1],

@@ -7,22 +7,22 @@ use ump::channel_voice1::ThreeWords;
 use ump::channel_voice1::TwoWords;
 
 // The marks of a cell with a number: a plain one, one below zero, and a refusal's. Any other mark is a character that stands by itself.
-pub const NUMBER: u8 = 0;
+pub(crate) const NUMBER: u8 = 0;
 
-pub const MINUS: u8 = 1;
+pub(crate) const MINUS: u8 = 1;
 
-pub const REFUSAL: u8 = 2;
+pub(crate) const REFUSAL: u8 = 2;
 
 // The mark and the number of each cell.
-pub struct Line {
-    pub count: usize,
-    pub marks: [u8; 20],
-    pub values: [u32; 20],
+pub(crate) struct Line {
+    pub(crate) count: usize,
+    pub(crate) marks: [u8; 20],
+    pub(crate) values: [u32; 20],
 }
 
 impl Line {
     // No cell.
-    pub fn new() -> Line {
+    pub(crate) fn new() -> Line {
         Line {
             count: 0,
             marks: [NUMBER; 20],
@@ -31,7 +31,7 @@ impl Line {
     }
 
     // One number.
-    pub fn one(a: u32) -> Line {
+    pub(crate) fn one(a: u32) -> Line {
         let mut line = Line::new();
         line.values[0] = a;
         line.count = 1;
@@ -39,7 +39,7 @@ impl Line {
     }
 
     // Two numbers.
-    pub fn two(a: u32, b: u32) -> Line {
+    pub(crate) fn two(a: u32, b: u32) -> Line {
         let mut line = Line::one(a);
         line.values[1] = b;
         line.count = 2;
@@ -47,7 +47,7 @@ impl Line {
     }
 
     // Three numbers.
-    pub fn three(a: u32, b: u32, c: u32) -> Line {
+    pub(crate) fn three(a: u32, b: u32, c: u32) -> Line {
         let mut line = Line::two(a, b);
         line.values[2] = c;
         line.count = 3;
@@ -55,7 +55,7 @@ impl Line {
     }
 
     // Four numbers.
-    pub fn four(a: u32, b: u32, c: u32, d: u32) -> Line {
+    pub(crate) fn four(a: u32, b: u32, c: u32, d: u32) -> Line {
         let mut line = Line::three(a, b, c);
         line.values[3] = d;
         line.count = 4;
@@ -63,21 +63,21 @@ impl Line {
     }
 
     // The refusal 1, out of range.
-    pub fn out_of_range() -> Line {
+    pub(crate) fn out_of_range() -> Line {
         let mut line = Line::one(1);
         line.marks[0] = REFUSAL;
         line
     }
 
     // The refusal 3, none.
-    pub fn none() -> Line {
+    pub(crate) fn none() -> Line {
         let mut line = Line::one(3);
         line.marks[0] = REFUSAL;
         line
     }
 
     // One cell more.
-    pub fn with(self, mark: u8, value: u32) -> Line {
+    pub(crate) fn with(self, mark: u8, value: u32) -> Line {
         let at = self.count;
         let mut line = self;
         if at < 20 {
@@ -89,12 +89,12 @@ impl Line {
     }
 
     // One byte more, as a number.
-    pub fn with_byte(self, value: u8) -> Line {
+    pub(crate) fn with_byte(self, value: u8) -> Line {
         self.with(NUMBER, value as u32)
     }
 
     // A signed number more.
-    pub fn with_signed(self, z: i32) -> Line {
+    pub(crate) fn with_signed(self, z: i32) -> Line {
         if z < 0 {
             return self.with(MINUS, unsigned_abs(z));
         }
@@ -102,7 +102,7 @@ impl Line {
     }
 
     // 1 for true, 0 for false.
-    pub fn with_flag(self, on: bool) -> Line {
+    pub(crate) fn with_flag(self, on: bool) -> Line {
         if on {
             return self.with(NUMBER, 1);
         }
@@ -110,7 +110,7 @@ impl Line {
     }
 
     // 0 for Lower, 1 for Upper.
-    pub fn with_zone(self, zone: MpeZone) -> Line {
+    pub(crate) fn with_zone(self, zone: MpeZone) -> Line {
         match zone {
             MpeZone::Lower => self.with(NUMBER, 0),
             MpeZone::Upper => self.with(NUMBER, 1),
@@ -118,7 +118,7 @@ impl Line {
     }
 
     // The word of a message.
-    pub fn of_message(answer: Message) -> Line {
+    pub(crate) fn of_message(answer: Message) -> Line {
         match answer {
             Message::Word(a) => Line::one(a),
             Message::OutOfRange => Line::out_of_range(),
@@ -126,7 +126,7 @@ impl Line {
     }
 
     // Two words.
-    pub fn of_two_words(answer: TwoWords) -> Line {
+    pub(crate) fn of_two_words(answer: TwoWords) -> Line {
         match answer {
             TwoWords::Words(a, b) => Line::two(a, b),
             TwoWords::OutOfRange => Line::out_of_range(),
@@ -134,7 +134,7 @@ impl Line {
     }
 
     // Three words.
-    pub fn of_three_words(answer: ThreeWords) -> Line {
+    pub(crate) fn of_three_words(answer: ThreeWords) -> Line {
         match answer {
             ThreeWords::Words(a, b, c) => Line::three(a, b, c),
             ThreeWords::OutOfRange => Line::out_of_range(),
@@ -142,7 +142,7 @@ impl Line {
     }
 
     // Four words.
-    pub fn of_four_words(answer: FourWords) -> Line {
+    pub(crate) fn of_four_words(answer: FourWords) -> Line {
         match answer {
             FourWords::Words(a, b, c, d) => Line::four(a, b, c, d),
             FourWords::OutOfRange => Line::out_of_range(),

@@ -7,9 +7,9 @@ use libc::STDOUT_FILENO;
 use mpe_sender::Written;
 
 // How many bytes wait in the buffer, and whether every write so far succeeded.
-pub struct Out {
-    pub waiting: usize,
-    pub well: bool,
+pub(crate) struct Out {
+    pub(crate) waiting: usize,
+    pub(crate) well: bool,
 }
 
 // Writes the first `n` bytes of the buffer.
@@ -21,7 +21,7 @@ fn write_first(buffer: &[u8], n: usize) -> bool {
 }
 
 impl Out {
-    pub fn new() -> Out {
+    pub(crate) fn new() -> Out {
         Out {
             waiting: 0,
             well: true,
@@ -29,7 +29,7 @@ impl Out {
     }
 
     // Writes what waits.
-    pub fn flush(self, buffer: &[u8; 4096]) -> Out {
+    pub(crate) fn flush(self, buffer: &[u8; 4096]) -> Out {
         let is_written = write_first(buffer, self.waiting);
         if is_written {
             return Out {
@@ -44,7 +44,7 @@ impl Out {
     }
 
     // One byte more.
-    pub fn byte(self, buffer: &mut [u8; 4096], b: u8) -> Out {
+    pub(crate) fn byte(self, buffer: &mut [u8; 4096], b: u8) -> Out {
         let at = self.waiting;
         if at < 4096 {
             buffer[at] = b;
@@ -62,7 +62,7 @@ impl Out {
     }
 
     // The bytes of `text`.
-    pub fn text(self, buffer: &mut [u8; 4096], text: &[u8]) -> Out {
+    pub(crate) fn text(self, buffer: &mut [u8; 4096], text: &[u8]) -> Out {
         let mut out = self;
         let mut i = 0;
         while i < text.len() {
@@ -94,7 +94,7 @@ impl Out {
     }
 
     // The cells of a line, or `ok` where it has none.
-    pub fn line(self, buffer: &mut [u8; 4096], line: Line) -> Out {
+    pub(crate) fn line(self, buffer: &mut [u8; 4096], line: Line) -> Out {
         let count = line.count;
         if count == 0 {
             return self.text(buffer, b"ok");
@@ -115,7 +115,7 @@ impl Out {
     }
 
     // What a call that writes into a buffer answers.
-    pub fn written(self, buffer: &mut [u8; 4096], answer: Written) -> Out {
+    pub(crate) fn written(self, buffer: &mut [u8; 4096], answer: Written) -> Out {
         match answer {
             Written::Count(count) => self.number(buffer, count as u64),
             Written::OutOfRange => self.line(buffer, Line::out_of_range()),
@@ -132,7 +132,7 @@ impl Out {
     }
 
     // A colon and the words of a buffer, a space before each.
-    pub fn words(self, buffer: &mut [u8; 4096], words: &[u32]) -> Out {
+    pub(crate) fn words(self, buffer: &mut [u8; 4096], words: &[u32]) -> Out {
         let mut out = self.text(buffer, b" :");
         let mut i = 0;
         while i < words.len() {
@@ -148,7 +148,7 @@ impl Out {
     }
 
     // A colon and the bytes of a buffer, a space before each.
-    pub fn bytes(self, buffer: &mut [u8; 4096], bytes: &[u8]) -> Out {
+    pub(crate) fn bytes(self, buffer: &mut [u8; 4096], bytes: &[u8]) -> Out {
         let mut out = self.text(buffer, b" :");
         let mut i = 0;
         while i < bytes.len() {

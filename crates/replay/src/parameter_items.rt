@@ -13,9 +13,9 @@ use parameters::select_messages;
 use parameters::value_messages;
 
 // The parameter state after an item, and the answer.
-pub struct ParameterTold {
-    pub state: ParameterState,
-    pub line: Line,
+pub(crate) struct ParameterTold {
+    pub(crate) state: ParameterState,
+    pub(crate) line: Line,
 }
 
 // PARAM.
@@ -60,7 +60,7 @@ fn reply(reply: Reply) -> Line {
 }
 
 // The reading of a channel's parameters, after the cells of `line`.
-pub fn reading(line: Line, rpn_on: bool, nrpn_on: bool, selection: Selection) -> Line {
+pub(crate) fn reading(line: Line, rpn_on: bool, nrpn_on: bool, selection: Selection) -> Line {
     let switches = line.with_flag(rpn_on).with_flag(nrpn_on);
     match selection {
         Selection::Nothing => switches.with(b'-', 0),
@@ -69,7 +69,7 @@ pub fn reading(line: Line, rpn_on: bool, nrpn_on: bool, selection: Selection) ->
 }
 
 // Answers an item of 30 to 33, which has no state.
-pub fn answer(item: &[u8; 80]) -> Line {
+pub(crate) fn answer(item: &[u8; 80]) -> Line {
     let operation = item[0];
     if operation == 0x30 {
         let e = ParameterEvent {
@@ -105,7 +105,7 @@ fn changed(state: ParameterState, operation: u8, on: bool) -> ParameterState {
 }
 
 // Answers an item of 34 to 39, on a parameter state.
-pub fn state_answer(state: ParameterState, item: &[u8; 80]) -> ParameterTold {
+pub(crate) fn state_answer(state: ParameterState, item: &[u8; 80]) -> ParameterTold {
     let operation = item[0];
     if operation == 0x35 {
         let received = state.receive(arguments::four(item[1], item[2], item[3], item[4]));

@@ -6,7 +6,7 @@ use mpe_pitch::pitch_bend_value;
 use mpe_pitch::pitch_offset;
 
 // Answers the item.
-pub fn answer(item: &[u8; 80]) -> Line {
+pub(crate) fn answer(item: &[u8; 80]) -> Line {
     let operation = item[0];
     if operation == 0x20 {
         let offset = arguments::signed(item[1], item[2], item[3], item[4]);

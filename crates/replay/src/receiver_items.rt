@@ -14,13 +14,13 @@ use parameters::MaybeEvent;
 use parameters::ParameterEvent;
 
 // The receiver after an item, and the answer.
-pub struct ReceiverTold {
-    pub receiver: MpeReceiver,
-    pub line: Line,
+pub(crate) struct ReceiverTold {
+    pub(crate) receiver: MpeReceiver,
+    pub(crate) line: Line,
 }
 
 // EVENT.
-pub fn event(line: Line, event: MpeEvent) -> Line {
+pub(crate) fn event(line: Line, event: MpeEvent) -> Line {
     match event {
         MpeEvent::NoZone => line.with_byte(0),
         MpeEvent::Zone { zone, manager } => line.with_byte(1).with_zone(zone).with_flag(manager),
@@ -42,7 +42,7 @@ fn reply(reply: Reply) -> Line {
 }
 
 // What `set_layout` answers.
-pub fn mask(answer: ResetMask) -> Line {
+pub(crate) fn mask(answer: ResetMask) -> Line {
     match answer {
         ResetMask::Mask(mask) => Line::one(mask as u32),
         ResetMask::OutOfRange => Line::out_of_range(),
@@ -50,7 +50,7 @@ pub fn mask(answer: ResetMask) -> Line {
 }
 
 // The reading of a zone, after the cells of `line`.
-pub fn zone(line: Line, manager: MpeSensitivity, member: MpeSensitivity, mode: u8) -> Line {
+pub(crate) fn zone(line: Line, manager: MpeSensitivity, member: MpeSensitivity, mode: u8) -> Line {
     line.with_byte(manager.semitones)
         .with_byte(manager.cents)
         .with_byte(member.semitones)
@@ -59,7 +59,7 @@ pub fn zone(line: Line, manager: MpeSensitivity, member: MpeSensitivity, mode: u
 }
 
 // The reading of a channel's controls.
-pub fn channel(bend: u16, pressure: u8, brightness: u8, offset: Offset) -> Line {
+pub(crate) fn channel(bend: u16, pressure: u8, brightness: u8, offset: Offset) -> Line {
     let line = Line::three(bend as u32, pressure as u32, brightness as u32);
     match offset {
         Offset::Offset(z) => line.with_signed(z),
@@ -130,7 +130,7 @@ fn set_layout(receiver: MpeReceiver, lower: u8, upper: u8) -> ReceiverTold {
 }
 
 // Answers the item, on a receiver.
-pub fn answer(receiver: MpeReceiver, item: &[u8; 80]) -> ReceiverTold {
+pub(crate) fn answer(receiver: MpeReceiver, item: &[u8; 80]) -> ReceiverTold {
     let operation = item[0];
     if operation == 0x40 {
         return ReceiverTold {

@@ -89,7 +89,7 @@ fn words_answer(out: Out, item: &[u8; 80], buffer: &mut [u8; 4096]) -> Out {
 }
 
 // Answers items 70 and 71.
-pub fn answer(out: Out, item: &[u8; 80], buffer: &mut [u8; 4096]) -> Out {
+pub(crate) fn answer(out: Out, item: &[u8; 80], buffer: &mut [u8; 4096]) -> Out {
     if item[0] == 0x70 {
         return bytes_answer(out, item, buffer);
     }
@@ -114,7 +114,7 @@ fn after(end: End, written: Written, bytes: &[u8]) -> End {
 }
 
 // The end after item 72.
-pub fn heard(end: End, item: &[u8; 80]) -> End {
+pub(crate) fn heard(end: End, item: &[u8; 80]) -> End {
     let mut bytes = [BYTE_BEFORE; 1024];
     let written = restatement_bytes(settings(item), &mut bytes);
     after(end, written, &bytes)

@@ -8,15 +8,15 @@ use crate::states::States;
 use libc::STDERR_FILENO;
 
 // The run between two reads: the states, the item that is being read, the output, and whether more is to be read.
-pub struct Run {
-    pub states: States,
-    pub begun: Begun,
-    pub out: Out,
-    pub going: bool,
+pub(crate) struct Run {
+    pub(crate) states: States,
+    pub(crate) begun: Begun,
+    pub(crate) out: Out,
+    pub(crate) going: bool,
 }
 
 impl Run {
-    pub fn new() -> Run {
+    pub(crate) fn new() -> Run {
         Run {
             states: States::new(),
             begun: Begun::new(),
@@ -26,14 +26,14 @@ impl Run {
     }
 
     // The run, read no further.
-    pub fn stopped(self) -> Run {
+    pub(crate) fn stopped(self) -> Run {
         let mut run = self;
         run.going = false;
         run
     }
 
     // The run, read no further where a write failed.
-    pub fn while_written(self) -> Run {
+    pub(crate) fn while_written(self) -> Run {
         let out = self.out;
         if out.well {
             return self;
@@ -42,7 +42,7 @@ impl Run {
     }
 
     // Writes what is left, and says where not all could be written.
-    pub fn finished(self, buffer: &[u8; 4096]) {
+    pub(crate) fn finished(self, buffer: &[u8; 4096]) {
         let out = self.out;
         let last = out.flush(buffer);
         if !last.well {
@@ -64,7 +64,7 @@ impl Run {
     }
 
     // The run at the input's end.
-    pub fn ended(self, buffer: &mut [u8; 4096]) -> Run {
+    pub(crate) fn ended(self, buffer: &mut [u8; 4096]) -> Run {
         let begun = self.begun;
         if begun.may_end() {
             return self.stopped();
@@ -100,7 +100,12 @@ impl Run {
     }
 
     // Answers the items of `text`.
-    pub fn answer_all(self, text: &[u8], item: &mut [u8; 80], buffer: &mut [u8; 4096]) -> Run {
+    pub(crate) fn answer_all(
+        self,
+        text: &[u8],
+        item: &mut [u8; 80],
+        buffer: &mut [u8; 4096],
+    ) -> Run {
         let mut run = self;
         let mut at = 0;
         while at < text.len() {

@@ -61,7 +61,7 @@ fn class_answer(item: &[u8; 80]) -> Line {
 }
 
 // Answers an item but 53.
-pub fn answer(item: &[u8; 80]) -> Line {
+pub(crate) fn answer(item: &[u8; 80]) -> Line {
     let operation = item[0];
     if operation == 0x50 {
         return class_answer(item);
@@ -105,7 +105,7 @@ fn zone_into(out: Out, item: &[u8; 80], words: &mut [u32], buffer: &mut [u8; 409
 }
 
 // Answers item 53.
-pub fn zone_answer(out: Out, item: &[u8; 80], buffer: &mut [u8; 4096]) -> Out {
+pub(crate) fn zone_answer(out: Out, item: &[u8; 80], buffer: &mut [u8; 4096]) -> Out {
     let n = buffer_length(item[6]);
     let mut words = [BEFORE; 64];
     zone_into(out, item, &mut words[..n], buffer)

@@ -14,17 +14,17 @@ use parameters::ParameterState;
 use receiving_end::end::End;
 
 // Each is new at the start.
-pub struct States {
-    pub end: End,
-    pub parameters: ParameterState,
-    pub receiver: MpeReceiver,
-    pub allocator: MpeNoteAllocator,
+pub(crate) struct States {
+    pub(crate) end: End,
+    pub(crate) parameters: ParameterState,
+    pub(crate) receiver: MpeReceiver,
+    pub(crate) allocator: MpeNoteAllocator,
 }
 
 // The states after an item, and the answer.
-pub struct Answered {
-    pub states: States,
-    pub line: Line,
+pub(crate) struct Answered {
+    pub(crate) states: States,
+    pub(crate) line: Line,
 }
 
 // The answer of an item that has no state.
@@ -43,7 +43,7 @@ fn answer_plain(item: &[u8; 80]) -> Line {
 }
 
 impl States {
-    pub fn new() -> States {
+    pub(crate) fn new() -> States {
         States {
             end: End::new(),
             parameters: ParameterState::new(),
@@ -117,7 +117,7 @@ impl States {
     }
 
     // Makes the call of a whole item.
-    pub fn answer(self, item: &[u8; 80]) -> Answered {
+    pub(crate) fn answer(self, item: &[u8; 80]) -> Answered {
         let operation = item[0];
         if operation < 0x10 {
             return self.answer_end(item);

@@ -1,7 +1,7 @@
 // The text of a trace, character by character: pairs of hexadecimal digits, with spaces, line ends and comments between them.
 
 // Where the reader stands.
-pub enum Place {
+pub(crate) enum Place {
     // A pair may begin here.
     Apart,
     // Straight after a pair: another may not begin here.
@@ -13,7 +13,7 @@ pub enum Place {
 }
 
 // What a character makes.
-pub enum Token {
+pub(crate) enum Token {
     // No pair: the reader goes on from this place.
     Passed(Place),
     // A pair: the reader goes on from `Joined`.
@@ -93,7 +93,7 @@ fn comment(c: u8) -> Token {
 
 impl Place {
     // What the character `c` makes at this place.
-    pub fn next(self, c: u8) -> Token {
+    pub(crate) fn next(self, c: u8) -> Token {
         match self {
             Place::Apart => first(c),
             Place::Joined => between(c),
@@ -103,7 +103,7 @@ impl Place {
     }
 
     // The text may end at this place.
-    pub fn may_end(self) -> bool {
+    pub(crate) fn may_end(self) -> bool {
         if let Place::Half(_) = self {
             false
         } else {

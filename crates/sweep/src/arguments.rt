@@ -1,7 +1,7 @@
 // The program's arguments as numbers.
 
 // What an argument says.
-pub enum Given {
+pub(crate) enum Given {
     // 0 to 127
     Number(u8),
     Other,
@@ -32,7 +32,7 @@ fn number(text: &[u8]) -> Given {
 }
 
 // Argument i; one that is missing or longer than a buffer says no number.
-pub fn argument(i: usize) -> Given {
+pub(crate) fn argument(i: usize) -> Given {
     let mut text = io::buffer();
     let n = os::arg(i, &mut text);
     number(&text[..n])
@@ -58,7 +58,7 @@ fn are_numbers(count: usize) -> bool {
 }
 
 // The arguments are numbers, at least two and an even count of them; `count` counts the program's name too.
-pub fn are_pairs(count: usize) -> bool {
+pub(crate) fn are_pairs(count: usize) -> bool {
     if count < 3 {
         return false;
     }
