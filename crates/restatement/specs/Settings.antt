@@ -11,10 +11,11 @@ use Rattle.mpe_pitch.specs.Pitch.{managerDefault, memberDefault}
 use Rattle.restatement.specs.declared.ZoneSettings.{ZoneSettings}
 use Rattle.restatement.specs.declared.Settings.{Settings}
 
--- no zone, and every channel at rest
+-- what a zone without members shows: the default sensitivities (M1-100 2.2.5) and mode 3
 abbrev pub newZone : ZoneSettings
 newZone = record { manager = managerDefault .semitones; member = memberDefault .semitones; mode = 3 }
 
+-- no zone, and every channel at rest
 abbrev pub newSettings : Settings
 newSettings =
     record {
