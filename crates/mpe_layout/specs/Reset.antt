@@ -1,16 +1,18 @@
 -- The channels that a change of layout resets (M1-100 2.2.3; document 01, "The receiver").
-use Prim.Native.Nat.{ℕ, _%_}
+use Prim.Native.Nat.{ℕ, _-_, _%_}
 use mathlib.Core.Bool.{Bool, true, false, not, _||_}
 use lib.Dec.{eqb}
 use Rattle.ump.specs.Choice.{if_then_else_}
 use Rattle.ump.specs.Outcome.{Outcome, given, outOfRange}
 use Rattle.ump.specs.Packet.{packetValue}
 use Rattle.ump.specs.Field.{field, maskTo}
-use Rattle.mpe_layout.specs.Layout.{ofLegal, roleOf}
+use Rattle.mpe_layout.specs.Layout.{ofLegal, placeOf, roleOf}
 use Rattle.mpe_layout.specs.declared.MpeZone.{MpeZone}
 use Rattle.mpe_layout.specs.declared.MpeZone.the-variants.{Lower, Upper}
 use Rattle.mpe_layout.specs.declared.MpeRole.{MpeRole}
 use Rattle.mpe_layout.specs.declared.MpeRole.the-variants.{NoZone, Manager, Member}
+use Rattle.mpe_layout.specs.declared.ZonePlace.{ZonePlace}
+use Rattle.mpe_layout.specs.declared.ZonePlace.the-variants.{Outside, AsManager, AsMember}
 use Rattle.mpe_layout.specs.declared.MpeLayout.{MpeLayout}
 use Rattle.mpe_layout.specs.declared.Change.{Change}
 use Rattle.mpe_layout.specs.declared.Change.the-variants.{Announced, Set}
@@ -70,6 +72,19 @@ announcementMask before after zone = maskTo (announcementHit before after zone) 
 
 abbrev pub layoutMask : MpeLayout → MpeLayout → ℕ
 layoutMask before after = maskTo (layoutHit before after) 16
+
+-- a place in the zone, as its manager or a member
+abbrev pub inside : ZonePlace → Bool
+inside Outside = false
+inside AsManager = true
+inside AsMember = true
+
+-- the channels of Lower with so many members, and of Upper
+unfoldable pub inLower : ℕ → ℕ → Bool
+inLower members channel = inside (placeOf members channel)
+
+unfoldable pub inUpper : ℕ → ℕ → Bool
+inUpper members channel = inside (placeOf members (15 - channel))
 
 -- the mask has this channel's bit
 abbrev pub named : ℕ → ℕ → Bool

@@ -1,11 +1,12 @@
 // MPE zones, roles and layouts (mpe.rs), and the channels that a change of layout resets.
 ghost use mathlib.Core.Path.{_≡_};
+ghost use mathlib.Core.Bool.{true};
 ghost use Prim.Native.Nat.{_<_};
 ghost use Rattle.ump.specs.Outcome.{given};
 ghost use Rattle.ump.specs.Packet.{packetValue};
 ghost use Rattle.ump.specs.Field.{maskTo};
 ghost use Rattle.mpe_layout.specs.Layout.{legalCounts, legal, ofLegal, layoutOf, membersOf, otherZone, managerOf, active, placeOf, roleAt, roleOf, lowestOf, lowestOrNone, leftBeside, layoutFor, withMcm, layoutMade, membersFound, roleFound, activityFound, lowestFound};
-ghost use Rattle.mpe_layout.specs.Reset.{sameZone, inZone, inAnyZone, sameRole, announcementRoles, announcementMask, layoutRoles, layoutMask, hitBy, named, maskFound};
+ghost use Rattle.mpe_layout.specs.Reset.{inLower, inUpper, announcementMask, layoutMask, hitBy, named, maskFound};
 
 // One of the two zones (M1-100 2.2.1).
 pub enum MpeZone {
@@ -34,21 +35,6 @@ impl MpeZone {
             MpeZone::Upper => MpeZone::Lower,
         }
     }
-
-    fn same(self, zone: MpeZone) -> bool
-        ensures { λ r. ⌜ r ≡ sameZone self zone ⌝ }
-    {
-        match self {
-            MpeZone::Lower => match zone {
-                MpeZone::Lower => true,
-                MpeZone::Upper => false,
-            },
-            MpeZone::Upper => match zone {
-                MpeZone::Lower => false,
-                MpeZone::Upper => true,
-            },
-        }
-    }
 }
 
 // The role of a channel in a layout (M1-100 1.5.1).
@@ -57,50 +43,6 @@ pub enum MpeRole {
     NoZone,
     Manager(MpeZone),
     Member(MpeZone),
-}
-
-impl MpeRole {
-    fn same(self, role: MpeRole) -> bool
-        ensures { λ r. ⌜ r ≡ sameRole self role ⌝ }
-    {
-        match self {
-            MpeRole::NoZone => match role {
-                MpeRole::NoZone => true,
-                MpeRole::Manager(_) => false,
-                MpeRole::Member(_) => false,
-            },
-            MpeRole::Manager(y) => match role {
-                MpeRole::NoZone => false,
-                MpeRole::Manager(z) => y.same(z),
-                MpeRole::Member(_) => false,
-            },
-            MpeRole::Member(y) => match role {
-                MpeRole::NoZone => false,
-                MpeRole::Manager(_) => false,
-                MpeRole::Member(z) => y.same(z),
-            },
-        }
-    }
-
-    fn in_zone(self, zone: MpeZone) -> bool
-        ensures { λ r. ⌜ r ≡ inZone self zone ⌝ }
-    {
-        match self {
-            MpeRole::NoZone => false,
-            MpeRole::Manager(z) => z.same(zone),
-            MpeRole::Member(z) => z.same(zone),
-        }
-    }
-
-    fn in_any_zone(self) -> bool
-        ensures { λ r. ⌜ r ≡ inAnyZone self ⌝ }
-    {
-        match self {
-            MpeRole::NoZone => false,
-            MpeRole::Manager(_) => true,
-            MpeRole::Member(_) => true,
-        }
-    }
 }
 
 // Where a channel stands to one zone.
@@ -372,55 +314,44 @@ enum Change {
     Set,
 }
 
-// The role changes, or is in the zone before or after.
-fn announcement_roles(before: MpeRole, after: MpeRole, zone: MpeZone) -> bool
-    ensures { λ r. ⌜ r ≡ announcementRoles before after zone ⌝ }
+// The channels of Lower with so many members: 0 to the last member.
+fn lower_mask(members: u8) -> u16
+    requires { ⌜ members < 16 ⌝ }
+    ensures { λ r. ⌜ r ≡ maskTo (inLower members) 16 ⌝ }
 {
-    if !before.same(after) {
-        return true;
+    if members == 0 {
+        return 0;
     }
-    if before.in_zone(zone) {
-        return true;
-    }
-    after.in_zone(zone)
+    0xFFFFu16 >> (15 - members)
 }
 
-// There is a role before or after.
-fn layout_roles(before: MpeRole, after: MpeRole) -> bool
-    ensures { λ r. ⌜ r ≡ layoutRoles before after ⌝ }
+// The channels of Upper with so many members: the lowest member to 15.
+fn upper_mask(members: u8) -> u16
+    requires { ⌜ members < 16 ⌝ }
+    ensures { λ r. ⌜ r ≡ maskTo (inUpper members) 16 ⌝ }
 {
-    if before.in_any_zone() {
-        return true;
+    if members == 0 {
+        return 0;
     }
-    after.in_any_zone()
+    0xFFFFu16 << (15 - members)
 }
 
-// The change resets the channel.
-fn resets(change: Change, before: MpeLayout, after: MpeLayout, channel: u8) -> bool
-    requires { ⌜ channel < 16 ⌝ }
-    ensures { λ r. ⌜ r ≡ hitBy change before after channel ⌝ }
-{
-    let old = before.role_in(channel);
-    let new = after.role_in(channel);
-    match change {
-        Change::Announced(zone) => announcement_roles(old, new, zone),
-        Change::Set => layout_roles(old, new),
-    }
-}
-
-// Bit n is set where the change resets channel n.
+// Bit n is set where the change resets channel n. No channel is in both zones of a layout.
 fn mask_of(change: Change, before: MpeLayout, after: MpeLayout) -> u16
+    requires { ⌜ (legal before ≡ true) × (legal after ≡ true) ⌝ }
     ensures { λ r. ⌜ r ≡ maskTo (hitBy change before after) 16 ⌝ }
 {
-    let mut mask: u16 = 0;
-    let mut i: u8 = 0;
-    while i < 16 {
-        if resets(change, before, after, i) {
-            mask = mask | (1u16 << i);
-        }
-        i += 1;
+    let a = lower_mask(before.lower);
+    let b = upper_mask(before.upper);
+    let c = lower_mask(after.lower);
+    let d = upper_mask(after.upper);
+    match change {
+        Change::Announced(zone) => match zone {
+            MpeZone::Lower => a | c | (b ^ d),
+            MpeZone::Upper => b | d | (a ^ c),
+        },
+        Change::Set => a | b | c | d,
     }
-    mask
 }
 
 fn reset(change: Change, before: MpeLayout, after: MpeLayout) -> ResetMask

@@ -1,6 +1,7 @@
 -- Laws that proofs of this crate and of those above it cite.
 pub mod Slots
 pub mod Rest
+pub mod Parts
 pub mod Legal
 pub mod Offsets
 pub mod WellFormed

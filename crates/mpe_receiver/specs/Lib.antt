@@ -2,6 +2,7 @@
 pub mod State
 pub mod Zones
 pub mod Receive
+pub mod Parts
 pub mod Read
 pub mod WellFormed
 pub mod Claims

@@ -1,12 +1,14 @@
 // The MPE receiver of one MIDI 1.0 input (mpe.rs).
 ghost use mathlib.Core.Path.{_≡_};
+ghost use mathlib.Core.Bool.{true};
 ghost use Prim.Native.Nat.{_<_, _*_, _+_};
 ghost use Rattle.ump.specs.Packet.{packetValue};
 ghost use Rattle.mpe_layout.specs.Layout.{legal, layoutMade, roleFound, lowestFound};
 ghost use Rattle.mpe_layout.specs.Reset.{maskFound, named};
-ghost use Rattle.mpe_receiver.specs.State.{newReceiver, withLayout, withMono, monoOf};
-ghost use Rattle.mpe_receiver.specs.Zones.{slotOf, sensitivityAt, sensitivityPut, relaid, activated, activatedIf, roleIn, roleHeld, layoutIn, announcedTo, maskIn, isLowest, isGiven, announcementResets, layoutResets};
-ghost use Rattle.mpe_receiver.specs.Receive.{stored, saidByRpn, saidByParameter, saidByEvent, saidBy, announced, configuredBy, configured, sensitivityApplied, rpnZero, hearing, toMember, inMode4, modeMessage, onMember, byRole, sensitivityByRole, acted, heardOf, replyRead, receivedReply, receivedState, laidOut, setReply, setState};
+ghost use Rattle.mpe_receiver.specs.State.{newReceiver, withMono, monoOf};
+ghost use Rattle.mpe_receiver.specs.Zones.{slotOf, sensitivityAt, sensitivityPut, restUpto, activated, activatedIf, roleIn, roleHeld, layoutIn, announcedTo, maskIn, isLowest, isGiven, announcementResets, layoutResets};
+ghost use Rattle.mpe_receiver.specs.Receive.{stored, saidByRpn, saidByParameter, saidByEvent, saidBy, announced, configuredBy, configured, sensitivityApplied, hearing, inMode4, modeMessage, onMember, byRole, heardOf, replyRead, receivedReply, receivedState, laidOut, setReply, setState};
+ghost use Rattle.mpe_receiver.specs.Parts.{zonesOf, withZones, newWith, told, toldBy, toldAs, resetIn, modeSet, sensed, sensedEvent, withSensed, announcing};
 ghost use Rattle.mpe_receiver.specs.Read.{modeOf, sensitivityOf, bendAt, pressureAt, brightnessAt, managerOffset, memberOffset, offsetByRole, offsetOf, offsetRead};
 use mpe_layout::FoundRole;
 use mpe_layout::LowestMember;
@@ -73,6 +75,20 @@ pub struct MpeReceiver {
 pub struct Heard {
     pub receiver: MpeReceiver,
     pub event: MpeEvent,
+}
+
+// The zones of a receiver: the layout, and the mode and the sensitivities of each zone.
+struct Zones {
+    layout: MpeLayout,
+    lower_mono: bool,
+    upper_mono: bool,
+    sensitivity: [u8; 8],
+}
+
+// The zones after a message, and its event.
+struct Told {
+    zones: Zones,
+    event: MpeEvent,
 }
 
 // What `receive` answers.
@@ -282,6 +298,306 @@ fn is_lowest(found: LowestMember, channel: u8) -> bool
     }
 }
 
+// Program change and bank select reach a member only in mode 4.
+fn event_in_mode_4(zone: MpeZone, mono: bool) -> MpeEvent
+    ensures { λ r. ⌜ r ≡ inMode4 newReceiver zone mono .event ⌝ }
+{
+    if mono {
+        return MpeEvent::Zone {
+            zone,
+            manager: false,
+        };
+    }
+    MpeEvent::Ignored
+}
+
+// Controllers 126 and 127 set the mode on the lowest member.
+fn mode_event(zone: MpeZone, lowest: bool) -> MpeEvent
+    ensures { λ r. ⌜ r ≡ modeMessage newReceiver zone lowest true .event ⌝ }
+{
+    if lowest {
+        return MpeEvent::Mode { zone };
+    }
+    MpeEvent::Zone {
+        zone,
+        manager: false,
+    }
+}
+
+// A message on a member, by the zone's mode and whether the member is the lowest.
+fn event_on_member(zone: MpeZone, mono: bool, lowest: bool, opcode: u8, first: u8) -> MpeEvent
+    ensures { λ r. ⌜ r ≡ onMember newReceiver zone mono lowest opcode first .event ⌝ }
+{
+    if opcode == 0xA {
+        return MpeEvent::Ignored;
+    }
+    if opcode == 0xC {
+        return event_in_mode_4(zone, mono);
+    }
+    if opcode != 0xB {
+        return MpeEvent::Zone {
+            zone,
+            manager: false,
+        };
+    }
+    if first == 0 {
+        return event_in_mode_4(zone, mono);
+    }
+    if first == 32 {
+        return event_in_mode_4(zone, mono);
+    }
+    if first == 126 {
+        return mode_event(zone, lowest);
+    }
+    if first == 127 {
+        return mode_event(zone, lowest);
+    }
+    MpeEvent::Zone {
+        zone,
+        manager: false,
+    }
+}
+
+// RPN 0: the sensitivities after it.
+fn sensitivity_after(l: [u8; 8], role: MpeRole, event: ParameterEvent) -> [u8; 8]
+    ensures { λ r. ⌜ r ≡ sensed l role event ⌝ }
+{
+    match role {
+        MpeRole::NoZone => l,
+        MpeRole::Manager(zone) => apply_at(l, slot(zone, true), event),
+        MpeRole::Member(zone) => apply_at(l, slot(zone, false), event),
+    }
+}
+
+fn sensitivity_event(role: MpeRole) -> MpeEvent
+    ensures { λ r. ⌜ r ≡ sensedEvent role ⌝ }
+{
+    match role {
+        MpeRole::NoZone => MpeEvent::NoZone,
+        MpeRole::Manager(zone) => MpeEvent::Sensitivity {
+            zone,
+            manager: true,
+        },
+        MpeRole::Member(zone) => MpeEvent::Sensitivity {
+            zone,
+            manager: false,
+        },
+    }
+}
+
+// Channel 0 announces Lower, and channel 15 Upper.
+fn announcing_role(channel: u8) -> MpeRole
+    ensures { λ r. ⌜ r ≡ announcing channel ⌝ }
+{
+    if channel == 0 {
+        return MpeRole::Manager(MpeZone::Lower);
+    }
+    if channel == 15 {
+        return MpeRole::Manager(MpeZone::Upper);
+    }
+    MpeRole::NoZone
+}
+
+// The channels that an event resets.
+fn reset_in(event: MpeEvent) -> u16
+    ensures { λ r. ⌜ r ≡ resetIn event ⌝ }
+{
+    match event {
+        MpeEvent::NoZone => 0,
+        MpeEvent::Zone {
+            zone: _,
+            manager: _,
+        } => 0,
+        MpeEvent::Layout { reset } => reset,
+        MpeEvent::Sensitivity {
+            zone: _,
+            manager: _,
+        } => 0,
+        MpeEvent::Mode { zone: _ } => 0,
+        MpeEvent::Ignored => 0,
+    }
+}
+
+impl Zones {
+    // The mode of a zone becomes 4 (mono) or 3.
+    fn with_mono(self, zone: MpeZone, mono: bool) -> Zones
+        ensures { λ r. ⌜ r ≡ zonesOf (withMono (newWith self) zone mono) ⌝ }
+    {
+        let mut z = self;
+        match zone {
+            MpeZone::Lower => {
+                z.lower_mono = mono;
+                z
+            }
+            MpeZone::Upper => {
+                z.upper_mono = mono;
+                z
+            }
+        }
+    }
+
+    fn is_mono(self, zone: MpeZone) -> bool
+        ensures { λ r. ⌜ r ≡ monoOf (newWith self) zone ⌝ }
+    {
+        match zone {
+            MpeZone::Lower => self.lower_mono,
+            MpeZone::Upper => self.upper_mono,
+        }
+    }
+
+    // The values of a zone that is announced or set with members.
+    fn activate(self, zone: MpeZone) -> Zones
+        ensures { λ r. ⌜ r ≡ zonesOf (activated (newWith self) zone) ⌝ }
+    {
+        let m = MpeSensitivity::MANAGER_DEFAULT;
+        let n = MpeSensitivity::MEMBER_DEFAULT;
+        let old = self.sensitivity;
+        let managed = put_sensitivity(old, slot(zone, true), m.semitones, m.cents);
+        let both = put_sensitivity(managed, slot(zone, false), n.semitones, n.cents);
+        let mut z = self;
+        z.sensitivity = both;
+        z.with_mono(zone, false)
+    }
+
+    fn activate_if(self, members: u8, zone: MpeZone) -> Zones
+        ensures { λ r. ⌜ r ≡ zonesOf (activatedIf members (newWith self) zone) ⌝ }
+    {
+        if 0 < members {
+            return self.activate(zone);
+        }
+        self
+    }
+
+    fn with_event(self, event: MpeEvent) -> Told
+        ensures { λ r. ⌜ r ≡ told self event ⌝ }
+    {
+        Told { zones: self, event }
+    }
+
+    // A zone announcement.
+    fn announce(self, zone: MpeZone, members: u8) -> Told
+        ensures { λ r. ⌜ r ≡ toldBy (announced (newWith self) zone members) ⌝ }
+    {
+        if 15 < members {
+            return self.with_event(MpeEvent::Ignored);
+        }
+        let before = self.layout;
+        let after = announced_to(before, zone, members);
+        let mask = mask_in(announcement_reset(before, after, zone));
+        let mut laid = self;
+        laid.layout = after;
+        let zones = laid.activate_if(members, zone);
+        Told {
+            zones,
+            event: MpeEvent::Layout { reset: mask },
+        }
+    }
+
+    fn configure(self, zone: MpeZone, change: ParameterChange) -> Told
+        ensures { λ r. ⌜ r ≡ toldBy (configuredBy (newWith self) zone change) ⌝ }
+    {
+        match change {
+            ParameterChange::DataEntryMsb(members) => self.announce(zone, members),
+            ParameterChange::DataEntryLsb(_) => self.with_event(MpeEvent::Ignored),
+            ParameterChange::Increment => self.with_event(MpeEvent::Ignored),
+            ParameterChange::Decrement => self.with_event(MpeEvent::Ignored),
+        }
+    }
+
+    // An MPE Configuration Message.
+    fn mcm(self, channel: u8, change: ParameterChange) -> Told
+        ensures { λ r. ⌜ r ≡ toldBy (configured (newWith self) channel change) ⌝ }
+    {
+        let role = announcing_role(channel);
+        match role {
+            MpeRole::NoZone => self.with_event(MpeEvent::Ignored),
+            MpeRole::Manager(zone) => self.configure(zone, change),
+            MpeRole::Member(_) => self.with_event(MpeEvent::Ignored),
+        }
+    }
+
+    // The role of a channel.
+    fn role(self, channel: u8) -> MpeRole
+        ensures { λ r. ⌜ r ≡ roleHeld (self .layout) channel ⌝ }
+    {
+        let layout = self.layout;
+        role_held(layout, channel)
+    }
+
+    // A message by its channel's role, where no parameter event decides.
+    fn event(self, role: MpeRole, opcode: u8, channel: u8, first: u8) -> MpeEvent
+        ensures { λ r. ⌜ r ≡ byRole (newWith self) channel role opcode first .event ⌝ }
+    {
+        match role {
+            MpeRole::NoZone => MpeEvent::NoZone,
+            MpeRole::Manager(zone) => MpeEvent::Zone {
+                zone,
+                manager: true,
+            },
+            MpeRole::Member(zone) => {
+                let layout = self.layout;
+                let lowest = is_lowest(layout.lowest_member(zone), channel);
+                event_on_member(zone, self.is_mono(zone), lowest, opcode, first)
+            }
+        }
+    }
+
+    // The zones after a message that no parameter event decides.
+    fn plain(self, event: MpeEvent, first: u8) -> Told
+        ensures { λ r. ⌜ r ≡ told (modeSet self event first) event ⌝ }
+    {
+        match event {
+            MpeEvent::NoZone => self.with_event(event),
+            MpeEvent::Zone {
+                zone: _,
+                manager: _,
+            } => self.with_event(event),
+            MpeEvent::Layout { reset: _ } => self.with_event(event),
+            MpeEvent::Sensitivity {
+                zone: _,
+                manager: _,
+            } => self.with_event(event),
+            MpeEvent::Mode { zone } => {
+                let z = self.with_mono(zone, first == 126);
+                z.with_event(event)
+            }
+            MpeEvent::Ignored => self.with_event(event),
+        }
+    }
+
+    // RPN 0: the manager's or the members' sensitivity in a zone.
+    fn sense(self, role: MpeRole, event: ParameterEvent) -> Told
+        ensures { λ r. ⌜ r ≡ told (withSensed self (sensed (self .sensitivity) role event)) (sensedEvent role) ⌝ }
+    {
+        let l = self.sensitivity;
+        let after = sensitivity_after(l, role, event);
+        let mut zones = self;
+        zones.sensitivity = after;
+        let e = sensitivity_event(role);
+        Told { zones, event: e }
+    }
+
+    // The zones after a message: by its channel's role and the event that it is where no parameter event decides.
+    fn tell(
+        self,
+        parameter: MaybeEvent,
+        role: MpeRole,
+        plain: MpeEvent,
+        opcode: u8,
+        channel: u8,
+        first: u8,
+    ) -> Told
+        ensures { λ r. ⌜ r ≡ toldAs self channel role plain (saidBy opcode parameter) first ⌝ }
+    {
+        let said = said_by(opcode, parameter);
+        match said {
+            Said::Nothing => self.plain(plain, first),
+            Said::Configuration(change) => self.mcm(channel, change),
+            Said::BendSensitivity(event) => self.sense(role, event),
+        }
+    }
+}
+
 impl MpeReceiver {
     // No zone, mode 3, and the controls of each channel at rest.
     pub fn new() -> MpeReceiver
@@ -296,32 +612,6 @@ impl MpeReceiver {
             pitch_bend: [0x2000; 16],
             pressure: [0; 16],
             brightness: [64; 16],
-        }
-    }
-
-    // The mode of a zone becomes 4 (mono) or 3.
-    fn with_mono(self, zone: MpeZone, mono: bool) -> MpeReceiver
-        ensures { λ r. ⌜ r ≡ withMono self zone mono ⌝ }
-    {
-        let mut r = self;
-        match zone {
-            MpeZone::Lower => {
-                r.lower_mono = mono;
-                r
-            }
-            MpeZone::Upper => {
-                r.upper_mono = mono;
-                r
-            }
-        }
-    }
-
-    fn is_mono(self, zone: MpeZone) -> bool
-        ensures { λ r. ⌜ r ≡ monoOf self zone ⌝ }
-    {
-        match zone {
-            MpeZone::Lower => self.lower_mono,
-            MpeZone::Upper => self.upper_mono,
         }
     }
 
@@ -355,9 +645,9 @@ impl MpeReceiver {
         self
     }
 
-    // The layout changes, and every channel in the mask is put to rest.
-    fn change_layout(self, after: MpeLayout, mask: u16) -> MpeReceiver
-        ensures { λ r. ⌜ r ≡ relaid self after mask ⌝ }
+    // Every channel in the mask is put to rest.
+    fn rest(self, mask: u16) -> MpeReceiver
+        ensures { λ r. ⌜ r ≡ restUpto self mask 16 ⌝ }
     {
         let mut r = self;
         let mut i: u8 = 0;
@@ -370,217 +660,44 @@ impl MpeReceiver {
             }
             i += 1;
         }
-        r.layout = after;
         r
     }
 
-    // The values of a zone that is announced or set with members.
-    fn activate(self, zone: MpeZone) -> MpeReceiver
-        ensures { λ r. ⌜ r ≡ activated self zone ⌝ }
+    // The channels that an event resets are put to rest.
+    fn rest_by(self, event: MpeEvent) -> MpeReceiver
+        ensures { λ r. ⌜ r ≡ restUpto self (resetIn event) 16 ⌝ }
     {
-        let m = MpeSensitivity::MANAGER_DEFAULT;
-        let n = MpeSensitivity::MEMBER_DEFAULT;
-        let old = self.sensitivity;
-        let managed = put_sensitivity(old, slot(zone, true), m.semitones, m.cents);
-        let both = put_sensitivity(managed, slot(zone, false), n.semitones, n.cents);
+        let mask = reset_in(event);
+        if mask == 0 {
+            return self;
+        }
+        self.rest(mask)
+    }
+
+    fn zones(self) -> Zones
+        ensures { λ r. ⌜ r ≡ zonesOf self ⌝ }
+    {
+        let layout = self.layout;
+        let sensitivity = self.sensitivity;
+        Zones {
+            layout,
+            lower_mono: self.lower_mono,
+            upper_mono: self.upper_mono,
+            sensitivity,
+        }
+    }
+
+    fn with_zones(self, zones: Zones) -> MpeReceiver
+        ensures { λ r. ⌜ r ≡ withZones self zones ⌝ }
+    {
+        let layout = zones.layout;
+        let sensitivity = zones.sensitivity;
         let mut r = self;
-        r.sensitivity = both;
-        r.with_mono(zone, false)
-    }
-
-    fn activate_if(self, members: u8, zone: MpeZone) -> MpeReceiver
-        ensures { λ r. ⌜ r ≡ activatedIf members self zone ⌝ }
-    {
-        if 0 < members {
-            return self.activate(zone);
-        }
-        self
-    }
-
-    // RPN 0 on a channel of a zone.
-    fn rpn_0(self, zone: MpeZone, manager: bool, event: ParameterEvent) -> Heard
-        ensures { λ r. ⌜ r ≡ rpnZero self zone manager event ⌝ }
-    {
-        let old = self.sensitivity;
-        let s = apply_at(old, slot(zone, manager), event);
-        let mut r = self;
-        r.sensitivity = s;
-        Heard {
-            receiver: r,
-            event: MpeEvent::Sensitivity { zone, manager },
-        }
-    }
-
-    // A zone announcement.
-    fn announce(self, zone: MpeZone, members: u8) -> Heard
-        ensures { λ r. ⌜ r ≡ announced self zone members ⌝ }
-    {
-        if 15 < members {
-            return self.ignored();
-        }
-        let before = self.layout;
-        let after = announced_to(before, zone, members);
-        let mask = mask_in(announcement_reset(before, after, zone));
-        let r = self.change_layout(after, mask).activate_if(members, zone);
-        Heard {
-            receiver: r,
-            event: MpeEvent::Layout { reset: mask },
-        }
-    }
-
-    fn configure(self, zone: MpeZone, change: ParameterChange) -> Heard
-        ensures { λ r. ⌜ r ≡ configuredBy self zone change ⌝ }
-    {
-        match change {
-            ParameterChange::DataEntryMsb(members) => self.announce(zone, members),
-            ParameterChange::DataEntryLsb(_) => self.ignored(),
-            ParameterChange::Increment => self.ignored(),
-            ParameterChange::Decrement => self.ignored(),
-        }
-    }
-
-    // An MPE Configuration Message.
-    fn mcm(self, channel: u8, change: ParameterChange) -> Heard
-        ensures { λ r. ⌜ r ≡ configured self channel change ⌝ }
-    {
-        if channel == 0 {
-            return self.configure(MpeZone::Lower, change);
-        }
-        if channel == 15 {
-            return self.configure(MpeZone::Upper, change);
-        }
-        Heard {
-            receiver: self,
-            event: MpeEvent::Ignored,
-        }
-    }
-
-    fn ignored(self) -> Heard
-        ensures { λ r. ⌜ r ≡ hearing self MpeEvent.Ignored ⌝ }
-    {
-        Heard {
-            receiver: self,
-            event: MpeEvent::Ignored,
-        }
-    }
-
-    fn to_member(self, zone: MpeZone) -> Heard
-        ensures { λ r. ⌜ r ≡ toMember self zone ⌝ }
-    {
-        Heard {
-            receiver: self,
-            event: MpeEvent::Zone {
-                zone,
-                manager: false,
-            },
-        }
-    }
-
-    // Program change and bank select reach a member only in mode 4.
-    fn in_mode_4(self, zone: MpeZone, mono: bool) -> Heard
-        ensures { λ r. ⌜ r ≡ inMode4 self zone mono ⌝ }
-    {
-        if mono {
-            return self.to_member(zone);
-        }
-        self.ignored()
-    }
-
-    // Controllers 126 and 127 set the mode on the lowest member.
-    fn mode_message(self, zone: MpeZone, lowest: bool, mono: bool) -> Heard
-        ensures { λ r. ⌜ r ≡ modeMessage self zone lowest mono ⌝ }
-    {
-        if lowest {
-            let r = self.with_mono(zone, mono);
-            return Heard {
-                receiver: r,
-                event: MpeEvent::Mode { zone },
-            };
-        }
-        self.to_member(zone)
-    }
-
-    // A message on a member, by the zone's mode and whether the member is the lowest.
-    fn on_member(self, zone: MpeZone, mono: bool, lowest: bool, opcode: u8, first: u8) -> Heard
-        ensures { λ r. ⌜ r ≡ onMember self zone mono lowest opcode first ⌝ }
-    {
-        if opcode == 0xA {
-            return self.ignored();
-        }
-        if opcode == 0xC {
-            return self.in_mode_4(zone, mono);
-        }
-        if opcode != 0xB {
-            return self.to_member(zone);
-        }
-        if first == 0 {
-            return self.in_mode_4(zone, mono);
-        }
-        if first == 32 {
-            return self.in_mode_4(zone, mono);
-        }
-        if first == 126 {
-            return self.mode_message(zone, lowest, true);
-        }
-        if first == 127 {
-            return self.mode_message(zone, lowest, false);
-        }
-        self.to_member(zone)
-    }
-
-    // A message by its channel's role, where no parameter event decides.
-    fn by_role(self, channel: u8, role: MpeRole, opcode: u8, first: u8) -> Heard
-        ensures { λ r. ⌜ r ≡ byRole self channel role opcode first ⌝ }
-    {
-        match role {
-            MpeRole::NoZone => Heard {
-                receiver: self,
-                event: MpeEvent::NoZone,
-            },
-            MpeRole::Manager(zone) => Heard {
-                receiver: self,
-                event: MpeEvent::Zone {
-                    zone,
-                    manager: true,
-                },
-            },
-            MpeRole::Member(zone) => {
-                let layout = self.layout;
-                let lowest = is_lowest(layout.lowest_member(zone), channel);
-                self.on_member(zone, self.is_mono(zone), lowest, opcode, first)
-            }
-        }
-    }
-
-    // RPN 0: the manager's or the members' sensitivity in a zone.
-    fn sensitivity_by_role(
-        self,
-        channel: u8,
-        role: MpeRole,
-        event: ParameterEvent,
-        opcode: u8,
-        first: u8,
-    ) -> Heard
-        ensures { λ r. ⌜ r ≡ sensitivityByRole self channel role event opcode first ⌝ }
-    {
-        match role {
-            MpeRole::NoZone => self.by_role(channel, MpeRole::NoZone, opcode, first),
-            MpeRole::Manager(zone) => self.rpn_0(zone, true, event),
-            MpeRole::Member(zone) => self.rpn_0(zone, false, event),
-        }
-    }
-
-    // The first case that fits.
-    fn act(self, channel: u8, role: MpeRole, said: Said, opcode: u8, first: u8) -> Heard
-        ensures { λ r. ⌜ r ≡ acted self channel role said opcode first ⌝ }
-    {
-        match said {
-            Said::Nothing => self.by_role(channel, role, opcode, first),
-            Said::Configuration(change) => self.mcm(channel, change),
-            Said::BendSensitivity(event) => {
-                self.sensitivity_by_role(channel, role, event, opcode, first)
-            }
-        }
+        r.layout = layout;
+        r.lower_mono = zones.lower_mono;
+        r.upper_mono = zones.upper_mono;
+        r.sensitivity = sensitivity;
+        r
     }
 
     // A message whose fields are cut.
@@ -588,11 +705,15 @@ impl MpeReceiver {
         requires { ⌜ channel < 16 ⌝ }
         ensures { λ r. ⌜ r ≡ heardOf self parameter opcode channel first second ⌝ }
     {
-        let layout = self.layout;
-        let role = role_held(layout, channel);
-        let said = said_by(opcode, parameter);
-        self.store(opcode, channel, first, second)
-            .act(channel, role, said, opcode, first)
+        let zones = self.zones();
+        let role = zones.role(channel);
+        let plain = zones.event(role, opcode, channel, first);
+        let t = zones.tell(parameter, role, plain, opcode, channel, first);
+        let after = t.zones;
+        let event = t.event;
+        let stored = self.store(opcode, channel, first, second);
+        let r = stored.with_zones(after).rest_by(event);
+        Heard { receiver: r, event }
     }
 
     // One message, with the event that its channel's parameters gave for it. A word that is no message is out of range.
@@ -625,9 +746,11 @@ impl MpeReceiver {
     fn lay_out(self, layout: MpeLayout, mask: u16) -> MpeReceiver
         ensures { λ r. ⌜ r ≡ laidOut self layout mask ⌝ }
     {
-        self.change_layout(layout, mask)
-            .activate_if(layout.lower, MpeZone::Lower)
-            .activate_if(layout.upper, MpeZone::Upper)
+        let mut laid = self.zones();
+        laid.layout = layout;
+        let zones = laid.activate_if(layout.lower, MpeZone::Lower)
+            .activate_if(layout.upper, MpeZone::Upper);
+        self.with_zones(zones).rest(mask)
     }
 
     // A layout that the application sets.
@@ -661,7 +784,8 @@ impl MpeReceiver {
     pub fn mode(self, zone: MpeZone) -> u8
         ensures { λ r. ⌜ r ≡ modeOf self zone ⌝ }
     {
-        if self.is_mono(zone) {
+        let zones = self.zones();
+        if zones.is_mono(zone) {
             return 4;
         }
         3

@@ -1,71 +1,68 @@
--- `mpe_layout::mask_of` meets its contract: after i turns the mask is `maskTo` at i, which lies below bit i.
+-- `mpe_layout::mask_of` meets its contract: the law of the masks of the zones, by the kind of change.
 -- Assumes nothing.
-use mathlib.Core.Path.{_≡_, refl}
-use mathlib.Core.Logic.{⊎-elim}
-use mathlib.Core.Bool.{true, false}
-use Prim.Native.Nat.{_<_, _≤_, _-_}
 use native.Mathlib.Omega.{arith}
 use borrow.Author.Needs.{needs}
-use Rattle.ump.specs.Field.{maskTo}
-use Rattle.ump.proofs.Mask.{mask-set, mask-clear}
-use Rattle.mpe_layout.specs.Reset.{hitBy}
+use Rattle.mpe_layout.specs.declared.MpeZone.the-variants.{Lower, Upper}
+use Rattle.mpe_layout.specs.declared.Change.the-variants.{Announced, Set}
+use Rattle.mpe_layout.proofs.Legal.{members-le}
+use Rattle.mpe_layout.proofs.Masks.{zones-mask}
 use Rattle.mpe_layout.proofs.mask_of.Statement.{statement}
 use Rattle.mpe_layout.proofs.mask_of.Tie as tie
 
-abbrev Inv-loop : tie.InvT-loop
-Inv-loop change before after mask₀ i₀ mask i = (i ≤ 16) × (mask ≡ maskTo (hitBy change before after) i)
+lower-mask-requires : tie.Need-lower-mask-requires
+lower-mask-requires c κs = omega (arith, members-le (c .args .before) Lower (c .pre .0))
 
-abbrev μ-loop : tie.MeasureT-loop
-μ-loop change before after mask₀ i₀ mask i = 16 - i
+upper-mask-requires : tie.Need-upper-mask-requires
+upper-mask-requires c κs = omega (arith, members-le (c .before .args .before) Upper (c .before .pre .0))
 
-loop-holds : tie.Need-loop-holds Inv-loop μ-loop
-unfolding maskTo
-loop-holds c = (search needs, refl)
+lower-mask-requires-2 : tie.Need-lower-mask-requires-2
+lower-mask-requires-2 c κs = omega (arith, members-le (c .before .before .args .after) Lower (c .before .before .pre .1))
 
-resets-requires : tie.Need-resets-requires Inv-loop μ-loop
-resets-requires c κs = search needs
+upper-mask-requires-2 : tie.Need-upper-mask-requires-2
+upper-mask-requires-2 c κs = omega (arith, members-le (c .before .before .before .args .after) Upper (c .before .before .before .pre .1))
 
-cast-mask : tie.Need-cast-mask Inv-loop μ-loop
-cast-mask c = search needs
+enum-known-change : tie.Need-enum-known-change
+enum-known-change c = search needs
 
-shl-mask : tie.Need-shl-mask Inv-loop μ-loop
-shl-mask c = search needs
+enum-told : tie.Need-enum-told
+enum-told c = search needs
 
-add-i : tie.Need-add-i Inv-loop μ-loop
-add-i c = omega arith
+enum-told-2 : tie.Need-enum-told-2
+enum-told-2 c = search needs
 
-loop-less : tie.Need-loop-less Inv-loop μ-loop
-loop-less c = omega arith
+enum-told-3 : tie.Need-enum-told-3
+enum-told-3 c = search needs
 
-loop-again : tie.Need-loop-again Inv-loop μ-loop
-loop-again c =
-    let a = c .before .before .before .before .args in
-    let hit = hitBy (a .change) (a .before) (a .after) in
-    let i = c .before .before .before .loop .i in
-    let within : i < 16 = omega arith in (
-      omega arith,
-      ⊎-elim
-          (λ w. let e : hit i ≡ true = cc in cc (mask-set hit i within e))
-          (λ w. let e : hit i ≡ false = cc in cc (mask-clear hit i e))
-          (c .if1 .came),
-    )
-
-returns : tie.Need-returns Inv-loop μ-loop
+returns : tie.Need-returns
 returns c =
-    let full : c .before .loop .i ≡ 16 = omega arith in
-    cc
+    let s = c .before .before .before .before .before .before .before .before .before in
+    let law = zones-mask (Announced Lower) (s .args .before) (s .args .after) (s .pre .0) (s .pre .1) in
+    rw (c .before .before .before .change .given .1, c .enum-told .given .1) (cc)
+
+returns-2 : tie.Need-returns-2
+returns-2 c =
+    let s = c .before .before .before .before .before .before .before .before .before in
+    let law = zones-mask (Announced Upper) (s .args .before) (s .args .after) (s .pre .0) (s .pre .1) in
+    rw (c .before .before .before .change .given .1, c .enum-told2 .given .1) (cc)
+
+returns-3 : tie.Need-returns-3
+returns-3 c =
+    let s = c .before .before .before .before .before .before in
+    let law = zones-mask Set (s .args .before) (s .args .after) (s .pre .0) (s .pre .1) in
+    rw (c .enum-told3 .given .1) (cc)
 
 pub mask-of-spec : {M : Type 1} → statement M
 mask-of-spec =
     tie.close
     (tie.spec
-    Inv-loop
-    μ-loop
-    loop-holds
-    resets-requires
-    cast-mask
-    shl-mask
-    add-i
-    loop-less
-    loop-again
-    returns)
+    lower-mask-requires
+    upper-mask-requires
+    lower-mask-requires-2
+    upper-mask-requires-2
+    enum-known-change
+    enum-told
+    enum-told-2
+    enum-told-3
+    returns
+    returns-2
+    returns-3)

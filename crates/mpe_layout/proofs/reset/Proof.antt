@@ -12,7 +12,7 @@ is-layout-requires-2 : tie.Need-is-layout-requires-2
 is-layout-requires-2 c κs = search needs
 
 mask-of-requires : tie.Need-mask-of-requires
-mask-of-requires c κs = search needs
+mask-of-requires c κs = (sym (c .before .before .before .is-layout .ensures) ∙ c .before .before .if1 .taken, sym (c .before .is-layout2 .ensures) ∙ c .if2 .taken)
 
 returns : tie.Need-returns
 returns c = rw (sym (c .before .before .before .before .is-layout .ensures) ∙ c .before .before .before .if1 .taken, sym (c .before .before .is-layout2 .ensures) ∙ c .before .if2 .taken) (cc)
