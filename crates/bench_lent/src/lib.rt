@@ -3,11 +3,11 @@ ghost use mathlib.Core.Path.{_≡_};
 ghost use Prim.Native.Nat.{_<_, _^_};
 ghost use Rattle.receiving_end.specs.End.{newEnd, stepReply, stepEnd};
 ghost use Rattle.bench_lent.specs.Code.{zoneCode, partCode, eventCode, replyCode};
+use lent_end::byte;
 use mpe_layout::MpeZone;
 use mpe_receiver::MpeEvent;
 use receiving_end::end::End;
 use receiving_end::end::Reply;
-use receiving_end::end::byte;
 
 fn zone_code(zone: MpeZone) -> u64
     ensures { λ r. ⌜ (r ≡ zoneCode zone) × (r < 2) ⌝ }

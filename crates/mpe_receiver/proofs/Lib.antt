@@ -2,6 +2,7 @@
 pub mod Slots
 pub mod Rest
 pub mod Parts
+pub mod Settle
 pub mod Legal
 pub mod Offsets
 pub mod WellFormed

@@ -1,10 +1,11 @@
 -- A receiver's zones apart from its channels. What a message does to the zones does not hang on the channels' controls, so it is told of a new receiver with these zones.
--- Private functions cite these; what a message is to do stands in Receive.antt.
+-- Private functions cite these, and the calls by which a lent end is taken apart; what a message is to do stands in Receive.antt.
 use Prim.Native.Nat.{ℕ}
-use mathlib.Core.Bool.{true, false}
+use mathlib.Core.Bool.{Bool, true, false}
 use mathlib.Core.List.{List}
 use lib.Dec.{eqb}
 use Rattle.ump.specs.Choice.{if_then_else_}
+use Rattle.ump.specs.Word.{opcodeOf, channelOf, firstOf, secondOf}
 use Rattle.parameters.specs.declared.ParameterEvent.{ParameterEvent}
 use Rattle.mpe_layout.specs.declared.MpeZone.the-variants.{Lower, Upper}
 use Rattle.mpe_layout.specs.declared.MpeRole.{MpeRole}
@@ -18,8 +19,8 @@ use Rattle.mpe_receiver.specs.declared.Said.the-variants.{Nothing, Confi
 use Rattle.mpe_receiver.specs.declared.Told.{Told}
 use Rattle.mpe_receiver.specs.declared.Zones.{Zones}
 use Rattle.mpe_receiver.specs.State.{newReceiver, withMono}
-use Rattle.mpe_receiver.specs.Zones.{slotOf}
-use Rattle.mpe_receiver.specs.Receive.{configured, sensitivityApplied}
+use Rattle.mpe_receiver.specs.Zones.{slotOf, restUpto}
+use Rattle.mpe_receiver.specs.Receive.{stored, configured, sensitivityApplied}
 
 abbrev pub zonesOf : MpeReceiver → Zones
 zonesOf r =
@@ -95,3 +96,21 @@ toldAs z channel ro plain Nothing a = told (modeSet z plain a) plain
 -- the manager whose channel announces a zone
 abbrev pub announcing : ℕ → MpeRole
 announcing channel = if eqb channel 0 then role.Manager Lower else if eqb channel 15 then role.Manager Upper else role.NoZone
+
+-- an event that tells of a change of the zones
+abbrev pub changesBy : MpeEvent → Bool
+changesBy NoZone = false
+changesBy (Zone z m) = false
+changesBy (Layout m) = true
+changesBy (Sensitivity z m) = true
+changesBy (Mode z) = true
+changesBy Ignored = false
+
+-- more of a receiver is altered than a brightness
+abbrev pub settlesBy : ℕ → MpeEvent → Bool
+settlesBy w e = if eqb (firstOf w) 121 then true else changesBy e
+
+-- a message stored, these zones, and the channels reset that its event names
+abbrev pub settled : MpeReceiver → Zones → ℕ → MpeEvent → MpeReceiver
+settled r z w e =
+    restUpto (withZones (stored r (opcodeOf w) (channelOf w) (firstOf w) (secondOf w)) z) (resetIn e) 16

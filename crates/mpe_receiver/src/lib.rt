@@ -8,7 +8,7 @@ ghost use Rattle.mpe_layout.specs.Reset.{maskFound, named};
 ghost use Rattle.mpe_receiver.specs.State.{newReceiver, withMono, monoOf};
 ghost use Rattle.mpe_receiver.specs.Zones.{slotOf, sensitivityAt, sensitivityPut, restUpto, activated, activatedIf, roleIn, roleHeld, layoutIn, announcedTo, maskIn, isLowest, isGiven, announcementResets, layoutResets};
 ghost use Rattle.mpe_receiver.specs.Receive.{stored, saidByRpn, saidByParameter, saidByEvent, saidBy, announced, configuredBy, configured, sensitivityApplied, hearing, inMode4, modeMessage, onMember, byRole, heardOf, replyRead, receivedReply, receivedState, laidOut, setReply, setState};
-ghost use Rattle.mpe_receiver.specs.Parts.{zonesOf, withZones, newWith, told, toldBy, toldAs, resetIn, modeSet, sensed, sensedEvent, withSensed, announcing};
+ghost use Rattle.mpe_receiver.specs.Parts.{zonesOf, withZones, newWith, told, toldBy, toldAs, resetIn, modeSet, sensed, sensedEvent, withSensed, announcing, changesBy, settlesBy, settled};
 ghost use Rattle.mpe_receiver.specs.Read.{modeOf, sensitivityOf, bendAt, pressureAt, brightnessAt, managerOffset, memberOffset, offsetByRole, offsetOf, offsetRead};
 use mpe_layout::FoundRole;
 use mpe_layout::LowestMember;
@@ -78,17 +78,17 @@ pub struct Heard {
 }
 
 // The zones of a receiver: the layout, and the mode and the sensitivities of each zone.
-struct Zones {
-    layout: MpeLayout,
-    lower_mono: bool,
-    upper_mono: bool,
-    sensitivity: [u8; 8],
+pub struct Zones {
+    pub layout: MpeLayout,
+    pub lower_mono: bool,
+    pub upper_mono: bool,
+    pub sensitivity: [u8; 8],
 }
 
 // The zones after a message, and its event.
-struct Told {
-    zones: Zones,
-    event: MpeEvent,
+pub struct Told {
+    pub zones: Zones,
+    pub event: MpeEvent,
 }
 
 // What `receive` answers.
@@ -418,6 +418,36 @@ fn reset_in(event: MpeEvent) -> u16
     }
 }
 
+// The event tells of a change of the zones.
+fn changes(event: MpeEvent) -> bool
+    ensures { λ r. ⌜ r ≡ changesBy event ⌝ }
+{
+    match event {
+        MpeEvent::NoZone => false,
+        MpeEvent::Zone {
+            zone: _,
+            manager: _,
+        } => false,
+        MpeEvent::Layout { reset: _ } => true,
+        MpeEvent::Sensitivity {
+            zone: _,
+            manager: _,
+        } => true,
+        MpeEvent::Mode { zone: _ } => true,
+        MpeEvent::Ignored => false,
+    }
+}
+
+// A control change alters more of a receiver than a brightness: it is 121, or the zones change.
+pub fn settles(word: u32, event: MpeEvent) -> bool
+    ensures { λ r. ⌜ r ≡ settlesBy word event ⌝ }
+{
+    if first_data(word) == 121 {
+        return true;
+    }
+    changes(event)
+}
+
 impl Zones {
     // The mode of a zone becomes 4 (mono) or 3.
     fn with_mono(self, zone: MpeZone, mono: bool) -> Zones
@@ -517,7 +547,7 @@ impl Zones {
     }
 
     // The role of a channel.
-    fn role(self, channel: u8) -> MpeRole
+    pub fn role(self, channel: u8) -> MpeRole
         ensures { λ r. ⌜ r ≡ roleHeld (self .layout) channel ⌝ }
     {
         let layout = self.layout;
@@ -525,7 +555,7 @@ impl Zones {
     }
 
     // A message by its channel's role, where no parameter event decides.
-    fn event(self, role: MpeRole, opcode: u8, channel: u8, first: u8) -> MpeEvent
+    pub fn event(self, role: MpeRole, opcode: u8, channel: u8, first: u8) -> MpeEvent
         ensures { λ r. ⌜ r ≡ byRole (newWith self) channel role opcode first .event ⌝ }
     {
         match role {
@@ -578,7 +608,7 @@ impl Zones {
     }
 
     // The zones after a message: by its channel's role and the event that it is where no parameter event decides.
-    fn tell(
+    pub fn tell(
         self,
         parameter: MaybeEvent,
         role: MpeRole,
@@ -674,7 +704,8 @@ impl MpeReceiver {
         self.rest(mask)
     }
 
-    fn zones(self) -> Zones
+    // The zones.
+    pub fn zones(self) -> Zones
         ensures { λ r. ⌜ r ≡ zonesOf self ⌝ }
     {
         let layout = self.layout;
@@ -698,6 +729,19 @@ impl MpeReceiver {
         r.upper_mono = zones.upper_mono;
         r.sensitivity = sensitivity;
         r
+    }
+
+    // A message is stored, the zones become these, and the channels that its event resets are put to rest.
+    pub fn settle(self, zones: Zones, word: u32, event: MpeEvent) -> MpeReceiver
+        ensures { λ r. ⌜ r ≡ settled self zones word event ⌝ }
+    {
+        let s = self.store(
+            opcode(word),
+            channel(word),
+            first_data(word),
+            second_data(word),
+        );
+        s.with_zones(zones).rest_by(event)
     }
 
     // A message whose fields are cut.

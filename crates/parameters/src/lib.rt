@@ -347,8 +347,8 @@ impl ParameterState {
         self
     }
 
-    // A control change.
-    fn control(self, index: u8, value: u8) -> Heard
+    // A control change, by its two data bytes.
+    pub fn control(self, index: u8, value: u8) -> Heard
         ensures { λ r. ⌜ r ≡ controlled self index value ⌝ }
     {
         if index == 6 {

@@ -1,4 +1,4 @@
-// The end: the byte call by value and lent, the layout, the reception switches, and every reading.
+// The end: the byte call by value, the layout, the reception switches, and every reading.
 ghost use mathlib.Core.Path.{_≡_};
 ghost use Prim.Native.Nat.{_<_};
 ghost use Rattle.ump.specs.Packet.{packetValue};
@@ -131,28 +131,6 @@ pub fn step(end: End, b: u8) -> Stepped
     let next = s.reader;
     let read = s.read;
     answer(end, next, read)
-}
-
-// The byte call on a lent end: the end is altered where it stands.
-pub fn byte(end: &mut End, b: u8) -> Reply
-    ensures { λ r. ⌜ (r ≡ stepReply (now (end .entry)) b) × (now (end .exit) ≡ stepEnd (now (end .entry)) b) ⌝ }
-{
-    let e = *end;
-    let s = step(e, b);
-    *end = s.end;
-    s.reply
-}
-
-// The lent call from values to a value.
-pub fn byte_of(e: End, b: u8) -> Stepped
-    ensures { λ r. ⌜ (r .reply ≡ stepReply e b) × (r .end ≡ stepEnd e b) ⌝ }
-{
-    let mut end = e;
-    let reply = byte(&mut end, b);
-    Stepped {
-        end: end,
-        reply: reply,
-    }
 }
 
 // The end after all of these bytes.

@@ -2,12 +2,12 @@
 use crate::line::Line;
 use crate::parameter_items;
 use crate::receiver_items;
+use lent_end::byte_of;
 use mpe_layout::MpeLayout;
 use mpe_layout::MpeZone;
 use receiving_end::end::End;
 use receiving_end::end::Reply;
 use receiving_end::end::Stepped;
-use receiving_end::end::byte_of;
 use receiving_end::end::step;
 
 // The end after an item, and the answer.

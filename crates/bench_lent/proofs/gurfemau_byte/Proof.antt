@@ -40,10 +40,10 @@ use Rattle.receiving_end.specs.declared.end.Reply.{Reply}
 use Rattle.receiving_end.proofs.end.End as T
 use Rattle.receiving_end.proofs.end.Reply as R
 use Rattle.receiving_end.proofs.end.Reply.Laws as R′
-use Rattle.receiving_end.proofs.end.byte as byte
-use Rattle.receiving_end.proofs.end.byte.Symbol as byte-def
-use Rattle.receiving_end.proofs.end.byte.Symbol.{name as #end·byte}
-use Rattle.receiving_end.proofs.end.byte.Met as byte-thm
+use Rattle.lent_end.proofs.byte as byte
+use Rattle.lent_end.proofs.byte.Symbol as byte-def
+use Rattle.lent_end.proofs.byte.Symbol.{name as #end·byte}
+use Rattle.lent_end.proofs.byte.Met as byte-thm
 use Rattle.bench_lent.specs.Code.{replyCode}
 use Rattle.bench_lent.proofs.reply_code as code-of
 use Rattle.bench_lent.proofs.reply_code.Symbol as code-of-def
@@ -147,5 +147,5 @@ gurfemau-byte-spec 𝓤 H 𝓜 𝓖 𝓡 =
     entered 𝓤 H (tripleOf 𝓤 H (𝓖 .A) f.signature (f.spec 𝓤 H (𝓖 .A) (𝓜 .mem) (𝓡 .run)))
     (tables 𝓤 H 𝓜 𝓡 code.env .C) (tables 𝓤 H 𝓜 𝓡 code.env .Λ) #gurfemau-byte code.function (code.unfolded 𝓤 H 𝓜 𝓡)
     (gurfemau-byte-meets 𝓤 H (𝓖 .A) (givenOf 𝓤 H 𝓜 𝓖) (𝓜 .mem) (𝓡 .run) (tablesOf 𝓤 H 𝓜 (tables 𝓤 H 𝓜 𝓡 code.env))
-    (cited 𝓤 H (Byte 𝓤 H (𝓖 .A) (𝓜 .mem) (𝓡 .run)) 𝓜 𝓡 code.env #end·byte byte-def.routine code.calls-receiving-end·end·byte (byte-thm.met 𝓤 H 𝓜 𝓖 𝓡))
+    (cited 𝓤 H (Byte 𝓤 H (𝓖 .A) (𝓜 .mem) (𝓡 .run)) 𝓜 𝓡 code.env #end·byte byte-def.routine code.calls-lent-end·byte (byte-thm.met 𝓤 H 𝓜 𝓖 𝓡))
     (cited 𝓤 H (Coded 𝓤 H (𝓖 .A) (𝓜 .mem) (𝓡 .run)) 𝓜 𝓡 code.env #reply-code code-of-def.routine code.calls-bench-lent·reply-code (code-of-thm.met 𝓤 H 𝓜 𝓖 𝓡)))

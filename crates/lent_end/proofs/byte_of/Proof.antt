@@ -1,4 +1,4 @@
--- `receiving_end::end::byte_of` meets its contract: a walk of its MIR, by hand. A local end is lent to `byte` for a lifetime that is made for the call, and is taken back at its last value.
+-- `lent_end::byte_of` meets its contract: a walk of its MIR, by hand. A local end is lent to `byte` for a lifetime that is made for the call, and is taken back at its last value.
 -- All that the proof knows of `byte` is that it meets its contract.
 -- Assumes nothing.
 use mathlib.Core.Path.{_≡_, refl, ap, subst}
@@ -41,24 +41,24 @@ use denote.Triple.Spec.{Meets, tripleOf}
 use denote.Triple.Table.{entered, cited}
 use denote.Triple.Walked.{says, Stays, stay-none, walkOf, goes-none, Walks, ends-at, walked, walk-meets}
 use denote.Exit.{yes}
 use Rattle.receiving_end.specs.End.{stepEnd, stepReply}
 use Rattle.receiving_end.specs.declared.end.End.{End}
 use Rattle.receiving_end.specs.declared.end.Reply.{Reply}
 use Rattle.receiving_end.specs.declared.end.Stepped.{Stepped}
 use Rattle.receiving_end.proofs.end.End as T
 use Rattle.receiving_end.proofs.end.End.Laws as T′
 use Rattle.receiving_end.proofs.end.Reply as R
 use Rattle.receiving_end.proofs.end.Reply.Laws as R′
 use Rattle.receiving_end.proofs.end.Stepped as S
 use Rattle.receiving_end.proofs.end.Stepped.Laws as S′
-use Rattle.receiving_end.proofs.end.byte as byte
-use Rattle.receiving_end.proofs.end.byte.Symbol as byte-def
-use Rattle.receiving_end.proofs.end.byte.Symbol.{name as #end·byte}
-use Rattle.receiving_end.proofs.end.byte.Met as byte-thm
-use Rattle.receiving_end.proofs.end.byte_of.Key.{name as #end·byte-of}
-use Rattle.receiving_end.proofs.end.byte_of as byte-of
-use Rattle.receiving_end.proofs.end.byte_of.Statement as stated
-use Rattle.receiving_end.proofs.end.byte_of.Code as code
+use Rattle.lent_end.proofs.byte as byte
+use Rattle.lent_end.proofs.byte.Symbol as byte-def
+use Rattle.lent_end.proofs.byte.Symbol.{name as #end·byte}
+use Rattle.lent_end.proofs.byte.Met as byte-thm
+use Rattle.lent_end.proofs.byte_of.Key.{name as #end·byte-of}
+use Rattle.lent_end.proofs.byte_of as byte-of
+use Rattle.lent_end.proofs.byte_of.Statement as stated
+use Rattle.lent_end.proofs.byte_of.Code as code
 
 abbrev stayed : Stays (byte-of.ended .signature .params) (byte-of.ended .kept)
 stayed = (stay-none (λ _. T.the-row) yes, (stay-none (λ _. u8) yes, tt))
@@ -171,4 +171,4 @@ byte-of-spec 𝓤 H 𝓜 𝓖 𝓡 =
     entered 𝓤 H (tripleOf 𝓤 H (𝓖 .A) byte-of.signature (byte-of.spec 𝓤 H (𝓖 .A) (𝓜 .mem) (𝓡 .run)))
     (tables 𝓤 H 𝓜 𝓡 code.env .C) (tables 𝓤 H 𝓜 𝓡 code.env .Λ) #end·byte-of code.function (code.unfolded 𝓤 H 𝓜 𝓡)
     (byte-of-meets 𝓤 H (𝓖 .A) (givenOf 𝓤 H 𝓜 𝓖) (𝓜 .mem) (𝓡 .run) (tablesOf 𝓤 H 𝓜 (tables 𝓤 H 𝓜 𝓡 code.env))
-    (cited 𝓤 H (Byte 𝓤 H (𝓖 .A) (𝓜 .mem) (𝓡 .run)) 𝓜 𝓡 code.env #end·byte byte-def.routine code.calls-receiving-end·end·byte (byte-thm.met 𝓤 H 𝓜 𝓖 𝓡)))
+    (cited 𝓤 H (Byte 𝓤 H (𝓖 .A) (𝓜 .mem) (𝓡 .run)) 𝓜 𝓡 code.env #end·byte byte-def.routine code.calls-lent-end·byte (byte-thm.met 𝓤 H 𝓜 𝓖 𝓡)))

@@ -1,0 +1,5 @@
+-- Laws that proofs of this crate cite.
+pub mod Item
+pub mod Walk
+pub mod Words
+pub mod Lent

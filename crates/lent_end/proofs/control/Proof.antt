@@ -1,0 +1,107 @@
+-- `lent_end::control` meets its contract.
+-- Assumes nothing.
+use borrow.Author.Needs.{needs}
+use Prim.Native.Nat.{ℕ}
+use mathlib.Core.Bool.{Bool}
+use mathlib.Core.Path.{_≡_}
+use lib.Dec.{eqb}
+use Rattle.ump.specs.Word.{opcodeOf, channelOf, firstOf, secondOf}
+use Rattle.parameters.specs.declared.Heard.{Heard}
+use Rattle.parameters.specs.declared.ParameterState.{ParameterState}
+use Rattle.parameters.specs.State as parameter
+use Rattle.mpe_receiver.specs.declared.Told.{Told}
+use Rattle.mpe_receiver.specs.Receive.{saidBy}
+use Rattle.mpe_receiver.specs.Parts.{toldAs, settlesBy}
+use Rattle.lent_end.specs.declared.Placed.{Placed}
+use Rattle.receiving_end.specs.declared.end.Reply.the-variants.{Message}
+use Rattle.lent_end.specs.Lent.{controlledOf}
+use Rattle.lent_end.proofs.control.Statement.{statement}
+use Rattle.lent_end.proofs.control.Tie as tie
+
+first-data-requires : tie.Need-first-data-requires
+first-data-requires c κs = search needs
+
+second-data-requires : tie.Need-second-data-requires
+second-data-requires c κs = search needs
+
+control-requires : tie.Need-control-requires
+control-requires c κs = search needs
+
+opcode-requires : tie.Need-opcode-requires
+opcode-requires c κs = search needs
+
+channel-requires : tie.Need-channel-requires
+channel-requires c κs = search needs
+
+first-data-requires-2 : tie.Need-first-data-requires-2
+first-data-requires-2 c κs = search needs
+
+tell-requires : tie.Need-tell-requires
+tell-requires c κs = search needs
+
+settles-requires : tie.Need-settles-requires
+settles-requires c κs = search needs
+
+first-data-requires-3 : tie.Need-first-data-requires-3
+first-data-requires-3 c κs = search needs
+
+second-data-requires-2 : tie.Need-second-data-requires-2
+second-data-requires-2 c κs = search needs
+
+-- the calls that make it
+made : (p : ParameterState) (at : Placed) (w : ℕ) {f s o k g i v : ℕ} {h : Heard} {t : Told} {more : Bool}
+    → f ≡ firstOf w
+    → s ≡ secondOf w
+    → h ≡ parameter.controlled p f s
+    → o ≡ opcodeOf w
+    → k ≡ channelOf w
+    → g ≡ firstOf w
+    → t ≡ toldAs (at .zones) k (at .role) (at .event) (saidBy o (h .event)) g
+    → more ≡ settlesBy w (t .event)
+    → i ≡ firstOf w
+    → v ≡ secondOf w
+    → record {
+      state = h .state;
+      zones = t .zones;
+      settles = more;
+      brightens = eqb i 74;
+      brightness = v;
+      event = t .event;
+      reply = Message w (t .event);
+    }
+    ≡ controlledOf p at w
+made p at w pf ps ph po pk pg pt pm pi pv = cc
+
+returns : tie.Need-returns
+returns c =
+    let b = c .before .before .before in
+    let d = b .before .before .before .before in
+    let e = d .before .before in
+    let a = e .before .before .before .before .args in
+    made (a .state) (a .placed) (a .word)
+    (e .before .before .first-data .ensures)
+    (e .before .second-data .ensures)
+    (e .control .ensures)
+    (d .opcode .ensures)
+    (b .before .before .before .channel .ensures)
+    (b .before .before .first-data2 .ensures)
+    (b .before .tell .ensures)
+    (c .before .before .settles .ensures)
+    (c .before .first-data3 .ensures)
+    (c .second-data2 .ensures)
+
+pub control-spec : {M : Type 1} → statement M
+control-spec =
+    tie.close
+    (tie.spec
+    first-data-requires
+    second-data-requires
+    control-requires
+    opcode-requires
+    channel-requires
+    first-data-requires-2
+    tell-requires
+    settles-requires
+    first-data-requires-3
+    second-data-requires-2
+    returns)

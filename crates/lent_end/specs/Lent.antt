@@ -1,0 +1,148 @@
+-- A lent end taken apart: what the by-value functions that the lent byte call makes answer. Private functions cite these; the byte call itself is held to End.antt.
+use Prim.Native.Nat.{ℕ, _+_, _*_, _%_}
+use mathlib.Core.Bool.{Bool, true, false}
+use lib.Dec.{eqb}
+use lib.ListN.{set}
+use Rattle.ump.specs.Choice.{if_then_else_}
+use Rattle.ump.specs.Word.{opcodeOf, channelOf, firstOf, secondOf}
+use Rattle.parameters.specs.declared.ParameterState.{ParameterState}
+use Rattle.parameters.specs.State as parameter
+use Rattle.mpe_receiver.specs.declared.MpeReceiver.{MpeReceiver}
+use Rattle.mpe_receiver.specs.declared.MpeEvent.{MpeEvent}
+use Rattle.mpe_receiver.specs.declared.MpeEvent.the-variants.{Ignored}
+use Rattle.mpe_receiver.specs.declared.Told.{Told}
+use Rattle.mpe_receiver.specs.declared.Zones.{Zones}
+use Rattle.mpe_receiver.specs.Zones.{roleHeld}
+use Rattle.mpe_receiver.specs.Receive.{byRole, saidBy}
+use Rattle.mpe_receiver.specs.State.{withBends, withPressures, withBrightnesses}
+use Rattle.mpe_receiver.specs.Parts.{zonesOf, newWith, toldAs, settlesBy, settled}
+use Rattle.byte_reader.specs.declared.Reader.{Reader}
+use Rattle.byte_reader.specs.declared.Read.{Read}
+use Rattle.byte_reader.specs.declared.Read.the-variants as read
+use Rattle.byte_reader.specs.Reader.{readStep}
+use Rattle.receiving_end.specs.declared.end.End.{End}
+use Rattle.receiving_end.specs.declared.end.Reply.{Reply}
+use Rattle.receiving_end.specs.declared.end.Reply.the-variants.{Quiet, Dropped, RealTime, Message}
+use Rattle.lent_end.specs.declared.Taken.{Taken}
+use Rattle.lent_end.specs.declared.Placed.{Placed}
+use Rattle.lent_end.specs.declared.Controlled.{Controlled}
+use Rattle.receiving_end.specs.End.{withReceiver, withParameter, parameterAt}
+
+-- a byte that reaches the reader alone
+abbrev pub readerOnly : Reader → Reply → Taken
+readerOnly r reply =
+    record {
+      reader = r;
+      reply = reply;
+      message = false;
+      control = false;
+      bends = false;
+      presses = false;
+      word = 0;
+      channel = 0;
+      bend = 0;
+      pressure = 0;
+    }
+
+abbrev pub bendIn : ℕ → ℕ
+bendIn w = secondOf w * 128 + firstOf w
+
+-- a word; the one opcode of no message that a reader can make is F, from a running status that it never gets by bytes
+abbrev pub wordTaken : Reader → ℕ → Taken
+wordTaken r w =
+    if eqb (opcodeOf w) 0xF then readerOnly r (Message w Ignored) else
+    record {
+      reader = r;
+      reply = Quiet;
+      message = true;
+      control = eqb (opcodeOf w) 0xB;
+      bends = eqb (opcodeOf w) 0xE;
+      presses = eqb (opcodeOf w) 0xD;
+      word = w;
+      channel = channelOf w;
+      bend = bendIn w;
+      pressure = firstOf w;
+    }
+
+abbrev pub readTaken : Reader → Read → Taken
+readTaken r read.Quiet = readerOnly r Quiet
+readTaken r read.Dropped = readerOnly r Dropped
+readTaken r (read.RealTime b) = readerOnly r (RealTime b)
+readTaken r (read.Message w) = wordTaken r w
+
+abbrev pub takenOf : Reader → ℕ → Taken
+takenOf r b = readTaken (readStep r b .reader) (readStep r b .read)
+
+-- the event of a message by its channel's role, where no parameter event decides
+abbrev pub placedEvent : Zones → ℕ → MpeEvent
+placedEvent z w =
+    byRole (newWith z) (channelOf w) (roleHeld (z .layout) (channelOf w)) (opcodeOf w) (firstOf w) .event
+
+abbrev pub placedOf : MpeReceiver → ℕ → Placed
+placedOf r w =
+    record {
+      zones = zonesOf r;
+      role = roleHeld (r .layout) (channelOf w);
+      event = placedEvent (zonesOf r) w;
+      reply = Message w (placedEvent (zonesOf r) w);
+    }
+
+-- a control change: the zones after it and its event, with the event that the channel's parameters give
+abbrev pub toldOf : ParameterState → Placed → ℕ → Told
+toldOf p at w =
+    toldAs (at .zones) (channelOf w) (at .role) (at .event)
+    (saidBy (opcodeOf w) (parameter.controlled p (firstOf w) (secondOf w) .event))
+    (firstOf w)
+
+abbrev pub controlledOf : ParameterState → Placed → ℕ → Controlled
+controlledOf p at w =
+    record {
+      state = parameter.controlled p (firstOf w) (secondOf w) .state;
+      zones = toldOf p at w .zones;
+      settles = settlesBy w (toldOf p at w .event);
+      brightens = eqb (firstOf w) 74;
+      brightness = secondOf w;
+      event = toldOf p at w .event;
+      reply = Message w (toldOf p at w .event);
+    }
+
+-- the end after each lent call; a channel is taken modulo 16
+abbrev pub voicedEnd : End → Taken → End
+voicedEnd e t =
+    if t .bends then
+    withReceiver e (withBends (e .receiver) (set (e .receiver .«pitch_bend») (t .channel % 16) (t .bend)))
+    else
+    if t .presses then
+    withReceiver e (withPressures (e .receiver) (set (e .receiver .pressure) (t .channel % 16) (t .pressure)))
+    else e
+
+abbrev pub brightEnd : End → ℕ → ℕ → End
+brightEnd e channel brightness =
+    withReceiver e (withBrightnesses (e .receiver) (set (e .receiver .brightness) (channel % 16) brightness))
+
+abbrev pub settledEnd : End → Zones → ℕ → MpeEvent → End
+settledEnd e z w event = withReceiver e (settled (e .receiver) z w event)
+
+abbrev pub receiverEnd : End → ℕ → ℕ → Controlled → End
+receiverEnd e w channel c =
+    if c .settles then settledEnd e (c .zones) w (c .event) else
+    if c .brightens then brightEnd e channel (c .brightness) else
+    e
+
+abbrev pub parameterEnd : End → ℕ → ℕ → Controlled → End
+parameterEnd e w channel c = receiverEnd (withParameter e (channel % 16) (c .state)) w channel c
+
+abbrev pub controlledAt : End → ℕ → ℕ → Placed → Controlled
+controlledAt e w channel at = controlledOf (parameterAt e (channel % 16)) at w
+
+abbrev pub controlledEnd : End → ℕ → ℕ → Placed → End
+controlledEnd e w channel at = parameterEnd e w channel (controlledAt e w channel at)
+
+abbrev pub toldEnd : End → Taken → End
+toldEnd e t =
+    if t .control then controlledEnd e (t .word) (t .channel) (placedOf (e .receiver) (t .word)) else voicedEnd e t
+
+abbrev pub toldReply : End → Taken → Reply
+toldReply e t =
+    if t .control then controlledAt e (t .word) (t .channel) (placedOf (e .receiver) (t .word)) .reply else
+    placedOf (e .receiver) (t .word) .reply

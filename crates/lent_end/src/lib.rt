@@ -1,0 +1,260 @@
+// The byte call on a lent end: the end is taken apart and altered where it stands.
+ghost use mathlib.Core.Path.{_≡_};
+ghost use Rattle.receiving_end.specs.End.{stepReply, stepEnd};
+ghost use Rattle.lent_end.specs.Lent.{readerOnly, bendIn, wordTaken, takenOf, placedOf, controlledOf, voicedEnd, brightEnd, settledEnd, receiverEnd, parameterEnd, controlledAt, controlledEnd, toldReply, toldEnd};
+use byte_reader::Read;
+use byte_reader::Reader;
+use mpe_layout::MpeRole;
+use mpe_receiver::MpeEvent;
+use mpe_receiver::MpeReceiver;
+use mpe_receiver::Zones;
+use mpe_receiver::settles;
+use parameters::ParameterState;
+use receiving_end::end::End;
+use receiving_end::end::Reply;
+use receiving_end::end::Stepped;
+use ump::channel_voice1::channel;
+use ump::channel_voice1::first_data;
+use ump::channel_voice1::opcode;
+use ump::channel_voice1::second_data;
+
+// A byte as the lent call takes it: a message of a channel, or a byte that reaches the reader alone.
+struct Taken {
+    reader: Reader,
+    // The reply to a byte that reaches the reader alone.
+    reply: Reply,
+    message: bool,
+    control: bool,
+    bends: bool,
+    presses: bool,
+    word: u32,
+    channel: usize,
+    bend: u16,
+    pressure: u8,
+}
+
+// The zones, the role of a message's channel in them, and the event and the reply where no parameter event decides.
+struct Placed {
+    zones: Zones,
+    role: MpeRole,
+    event: MpeEvent,
+    reply: Reply,
+}
+
+// What a control change makes of a channel's parameters, of the zones and of the channel's controls.
+struct Controlled {
+    state: ParameterState,
+    zones: Zones,
+    // More of the receiver is altered than a brightness.
+    settles: bool,
+    brightens: bool,
+    brightness: u8,
+    event: MpeEvent,
+    reply: Reply,
+}
+
+fn reader_only(reader: Reader, reply: Reply) -> Taken
+    ensures { λ r. ⌜ r ≡ readerOnly reader reply ⌝ }
+{
+    Taken {
+        reader,
+        reply,
+        message: false,
+        control: false,
+        bends: false,
+        presses: false,
+        word: 0,
+        channel: 0,
+        bend: 0,
+        pressure: 0,
+    }
+}
+
+// A bend from its two data bytes.
+fn bend_in(word: u32) -> u16
+    ensures { λ r. ⌜ r ≡ bendIn word ⌝ }
+{
+    second_data(word) as u16 * 128 + first_data(word) as u16
+}
+
+fn take_word(reader: Reader, word: u32) -> Taken
+    ensures { λ r. ⌜ r ≡ wordTaken reader word ⌝ }
+{
+    if opcode(word) == 0xF {
+        return reader_only(reader, Reply::Message(word, MpeEvent::Ignored));
+    }
+    Taken {
+        reader,
+        reply: Reply::Quiet,
+        message: true,
+        control: opcode(word) == 0xB,
+        bends: opcode(word) == 0xE,
+        presses: opcode(word) == 0xD,
+        word,
+        channel: channel(word) as usize,
+        bend: bend_in(word),
+        pressure: first_data(word),
+    }
+}
+
+fn take(reader: Reader, b: u8) -> Taken
+    ensures { λ r. ⌜ r ≡ takenOf reader b ⌝ }
+{
+    let s = reader.step(b);
+    let next = s.reader;
+    let read = s.read;
+    match read {
+        Read::Quiet => reader_only(next, Reply::Quiet),
+        Read::Dropped => reader_only(next, Reply::Dropped),
+        Read::RealTime(c) => reader_only(next, Reply::RealTime(c)),
+        Read::Message(word) => take_word(next, word),
+    }
+}
+
+fn place(receiver: MpeReceiver, word: u32) -> Placed
+    ensures { λ r. ⌜ r ≡ placedOf receiver word ⌝ }
+{
+    let zones = receiver.zones();
+    let role = zones.role(channel(word));
+    let event = zones.event(role, opcode(word), channel(word), first_data(word));
+    Placed {
+        zones,
+        role,
+        event,
+        reply: Reply::Message(word, event),
+    }
+}
+
+fn control(state: ParameterState, placed: Placed, word: u32) -> Controlled
+    ensures { λ r. ⌜ r ≡ controlledOf state placed word ⌝ }
+{
+    let zones = placed.zones;
+    let role = placed.role;
+    let plain = placed.event;
+    let heard = state.control(first_data(word), second_data(word));
+    let next = heard.state;
+    let said = heard.event;
+    let t = zones.tell(
+        said,
+        role,
+        plain,
+        opcode(word),
+        channel(word),
+        first_data(word),
+    );
+    let after = t.zones;
+    let event = t.event;
+    Controlled {
+        state: next,
+        zones: after,
+        settles: settles(word, event),
+        brightens: first_data(word) == 74,
+        brightness: second_data(word),
+        event,
+        reply: Reply::Message(word, event),
+    }
+}
+
+// A bend or a pressure is stored where it stands.
+fn tell_voice(end: &mut End, t: Taken, reply: Reply) -> Reply
+    ensures { λ r. ⌜ (r ≡ reply) × (now (end .exit) ≡ voicedEnd (now (end .entry)) t) ⌝ }
+{
+    let k = t.channel % 16;
+    if t.bends {
+        end.receiver.pitch_bend[k] = t.bend;
+        return reply;
+    } else if t.presses {
+        end.receiver.pressure[k] = t.pressure;
+        return reply;
+    } else {
+        return reply;
+    }
+}
+
+// The brightness of a channel is stored where it stands.
+fn put_brightness(end: &mut End, channel: usize, brightness: u8, reply: Reply) -> Reply
+    ensures { λ r. ⌜ (r ≡ reply) × (now (end .exit) ≡ brightEnd (now (end .entry)) channel brightness) ⌝ }
+{
+    let k = channel % 16;
+    end.receiver.brightness[k] = brightness;
+    reply
+}
+
+// The receiver is settled as a whole.
+fn settle_receiver(end: &mut End, zones: Zones, word: u32, event: MpeEvent, reply: Reply) -> Reply
+    ensures { λ r. ⌜ (r ≡ reply) × (now (end .exit) ≡ settledEnd (now (end .entry)) zones word event) ⌝ }
+{
+    let receiver = end.receiver;
+    end.receiver = receiver.settle(zones, word, event);
+    reply
+}
+
+// What a control change alters of the receiver.
+fn tell_receiver(end: &mut End, word: u32, channel: usize, c: Controlled) -> Reply
+    ensures { λ r. ⌜ (r ≡ c .reply) × (now (end .exit) ≡ receiverEnd (now (end .entry)) word channel c) ⌝ }
+{
+    if c.settles {
+        return settle_receiver(end, c.zones, word, c.event, c.reply);
+    } else if c.brightens {
+        return put_brightness(end, channel, c.brightness, c.reply);
+    } else {
+        return c.reply;
+    }
+}
+
+// The parameters of the channel are stored where they stand, and the receiver is told.
+fn tell_parameter(end: &mut End, word: u32, channel: usize, c: Controlled) -> Reply
+    ensures { λ r. ⌜ (r ≡ c .reply) × (now (end .exit) ≡ parameterEnd (now (end .entry)) word channel c) ⌝ }
+{
+    let k = channel % 16;
+    end.parameters[k] = c.state;
+    tell_receiver(end, word, channel, c)
+}
+
+// A control change reaches its channel's parameters first.
+fn tell_control(end: &mut End, word: u32, channel: usize, placed: Placed) -> Reply
+    ensures { λ r. ⌜ (r ≡ controlledAt (now (end .entry)) word channel placed .reply) × (now (end .exit) ≡ controlledEnd (now (end .entry)) word channel placed) ⌝ }
+{
+    let k = channel % 16;
+    let c = control(end.parameters[k], placed, word);
+    tell_parameter(end, word, channel, c)
+}
+
+// A message of a channel.
+fn tell(end: &mut End, t: Taken) -> Reply
+    ensures { λ r. ⌜ (r ≡ toldReply (now (end .entry)) t) × (now (end .exit) ≡ toldEnd (now (end .entry)) t) ⌝ }
+{
+    let receiver = end.receiver;
+    let placed = place(receiver, t.word);
+    if t.control {
+        return tell_control(end, t.word, t.channel, placed);
+    } else {
+        return tell_voice(end, t, placed.reply);
+    }
+}
+
+// The byte call on a lent end, which is taken apart and altered where it stands.
+pub fn byte(end: &mut End, b: u8) -> Reply
+    ensures { λ r. ⌜ (r ≡ stepReply (now (end .entry)) b) × (now (end .exit) ≡ stepEnd (now (end .entry)) b) ⌝ }
+{
+    let reader = end.reader;
+    let t = take(reader, b);
+    end.reader = t.reader;
+    if t.message {
+        return tell(end, t);
+    } else {
+        return t.reply;
+    }
+}
+
+// The lent call from values to a value.
+pub fn byte_of(e: End, b: u8) -> Stepped
+    ensures { λ r. ⌜ (r .reply ≡ stepReply e b) × (r .end ≡ stepEnd e b) ⌝ }
+{
+    let mut end = e;
+    let reply = byte(&mut end, b);
+    Stepped {
+        end: end,
+        reply: reply,
+    }
+}
