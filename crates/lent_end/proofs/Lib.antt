@@ -1,5 +1,6 @@
 -- Laws that proofs of this crate cite.
 pub mod Item
 pub mod Walk
+pub mod Lending
 pub mod Words
 pub mod Lent

@@ -7,7 +7,7 @@
 --     opened, closed     the one from the other
 -- Assumes `Given`.
 use mathlib.Core.Path.{_≡_, refl, sym, ap, subst}
-use Prim.Native.Nat.{ℕ, zero, _+_}
+use Prim.Native.Nat.{ℕ, _+_}
 use mathlib.Core.Option.{Option, none, some}
 use mathlib.Core.List.{List, [], _∷_}
 use lib.Dec.{T as Holds}
@@ -22,7 +22,7 @@ use prog.Memory.{fieldOf}
 use prog.Wp.{Heap, Calls}
 use ghost.Atoms.{Atoms, sem}
 use contract.Monad.{fact}
-use types.Kit.{Given, Item, ‵, raw, _⊛_, later, mean, _$_, _∵_, !, qed, move, drop, use1, split, split3, rewrite, fsplit3, fjoin3, feqI, await, updating, now, check, frame, done}
+use types.Kit.{Given, Item, ‵, raw, _⊛_, later, mean, _$_, _∵_, !, qed, move, drop, use1, split, split3, rewrite, fsplit3, fjoin3, feqI, await, updating, now, check, done}
 use types.Part.{Part, sub}
 use types.SemTy.{Body}
 use denote.RattleType.{RattleType}

@@ -53,6 +53,7 @@ struct Controlled {
     reply: Reply,
 }
 
+// A byte that reaches the reader alone.
 fn reader_only(reader: Reader, reply: Reply) -> Taken
     ensures { λ r. ⌜ r ≡ readerOnly reader reply ⌝ }
 {
@@ -77,6 +78,7 @@ fn bend_in(word: u32) -> u16
     second_data(word) as u16 * 128 + first_data(word) as u16
 }
 
+// A word that the reader made; opcode F is that of no message.
 fn take_word(reader: Reader, word: u32) -> Taken
     ensures { λ r. ⌜ r ≡ wordTaken reader word ⌝ }
 {
@@ -97,6 +99,7 @@ fn take_word(reader: Reader, word: u32) -> Taken
     }
 }
 
+// What one byte is.
 fn take(reader: Reader, b: u8) -> Taken
     ensures { λ r. ⌜ r ≡ takenOf reader b ⌝ }
 {
@@ -111,6 +114,7 @@ fn take(reader: Reader, b: u8) -> Taken
     }
 }
 
+// Where a message stands: its channel's role in the zones, and its event by that role.
 fn place(receiver: MpeReceiver, word: u32) -> Placed
     ensures { λ r. ⌜ r ≡ placedOf receiver word ⌝ }
 {
@@ -125,6 +129,7 @@ fn place(receiver: MpeReceiver, word: u32) -> Placed
     }
 }
 
+// A control change reaches the parameters of its channel, and the zones with their event.
 fn control(state: ParameterState, placed: Placed, word: u32) -> Controlled
     ensures { λ r. ⌜ r ≡ controlledOf state placed word ⌝ }
 {
