@@ -98,8 +98,6 @@ messageTaken r w control =
       presses = eqb (opcodeOf w) 0xD;
       word = w;
       channel = channelOf w;
-      bend = bendIn w;
-      pressure = firstOf w;
     }
 
 -- a word of the form of a message, heard by an end

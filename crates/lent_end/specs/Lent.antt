@@ -40,12 +40,7 @@ readerOnly r reply =
       presses = false;
       word = 0;
       channel = 0;
-      bend = 0;
-      pressure = 0;
     }
-
-abbrev pub bendIn : ℕ → ℕ
-bendIn w = secondOf w * 128 + firstOf w
 
 -- a word; the one opcode of no message that a reader can make is F, from a running status that it never gets by bytes
 abbrev pub wordTaken : Reader → ℕ → Taken
@@ -60,8 +55,6 @@ wordTaken r w =
       presses = eqb (opcodeOf w) 0xD;
       word = w;
       channel = channelOf w;
-      bend = bendIn w;
-      pressure = firstOf w;
     }
 
 abbrev pub readTaken : Reader → Read → Taken
@@ -106,14 +99,18 @@ controlledOf p at w =
       reply = Message w (toldOf p at w .event);
     }
 
+-- a bend from its two data bytes
+abbrev pub bendIn : ℕ → ℕ
+bendIn w = secondOf w * 128 + firstOf w
+
 -- the end after each lent call; a channel is taken modulo 16
 abbrev pub voicedEnd : End → Taken → End
 voicedEnd e t =
     if t .bends then
-    withReceiver e (withBends (e .receiver) (set (e .receiver .«pitch_bend») (t .channel % 16) (t .bend)))
+    withReceiver e (withBends (e .receiver) (set (e .receiver .«pitch_bend») (t .channel % 16) (bendIn (t .word))))
     else
     if t .presses then
-    withReceiver e (withPressures (e .receiver) (set (e .receiver .pressure) (t .channel % 16) (t .pressure)))
+    withReceiver e (withPressures (e .receiver) (set (e .receiver .pressure) (t .channel % 16) (firstOf (t .word))))
     else e
 
 abbrev pub brightEnd : End → ℕ → ℕ → End

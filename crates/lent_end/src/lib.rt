@@ -29,8 +29,6 @@ struct Taken {
     presses: bool,
     word: u32,
     channel: usize,
-    bend: u16,
-    pressure: u8,
 }
 
 // The zones, the role of a message's channel in them, and the event and the reply where no parameter event decides.
@@ -66,16 +64,7 @@ fn reader_only(reader: Reader, reply: Reply) -> Taken
         presses: false,
         word: 0,
         channel: 0,
-        bend: 0,
-        pressure: 0,
     }
-}
-
-// A bend from its two data bytes.
-fn bend_in(word: u32) -> u16
-    ensures { λ r. ⌜ r ≡ bendIn word ⌝ }
-{
-    second_data(word) as u16 * 128 + first_data(word) as u16
 }
 
 // A word that the reader made; opcode F is that of no message.
@@ -94,8 +83,6 @@ fn take_word(reader: Reader, word: u32) -> Taken
         presses: opcode(word) == 0xD,
         word,
         channel: channel(word) as usize,
-        bend: bend_in(word),
-        pressure: first_data(word),
     }
 }
 
@@ -160,29 +147,27 @@ fn control(state: ParameterState, placed: Placed, word: u32) -> Controlled
     }
 }
 
+// A bend from its two data bytes.
+fn bend_in(word: u32) -> u16
+    ensures { λ r. ⌜ r ≡ bendIn word ⌝ }
+{
+    second_data(word) as u16 * 128 + first_data(word) as u16
+}
+
 // A bend or a pressure is stored where it stands.
 fn tell_voice(end: &mut End, t: Taken, reply: Reply) -> Reply
     ensures { λ r. ⌜ (r ≡ reply) × (now (end .exit) ≡ voicedEnd (now (end .entry)) t) ⌝ }
 {
     let k = t.channel % 16;
     if t.bends {
-        end.receiver.pitch_bend[k] = t.bend;
+        end.receiver.pitch_bend[k] = bend_in(t.word);
         return reply;
     } else if t.presses {
-        end.receiver.pressure[k] = t.pressure;
+        end.receiver.pressure[k] = first_data(t.word);
         return reply;
     } else {
         return reply;
     }
-}
-
-// The brightness of a channel is stored where it stands.
-fn put_brightness(end: &mut End, channel: usize, brightness: u8, reply: Reply) -> Reply
-    ensures { λ r. ⌜ (r ≡ reply) × (now (end .exit) ≡ brightEnd (now (end .entry)) channel brightness) ⌝ }
-{
-    let k = channel % 16;
-    end.receiver.brightness[k] = brightness;
-    reply
 }
 
 // The receiver is settled as a whole.
@@ -201,7 +186,9 @@ fn tell_receiver(end: &mut End, word: u32, channel: usize, c: Controlled) -> Rep
     if c.settles {
         return settle_receiver(end, c.zones, word, c.event, c.reply);
     } else if c.brightens {
-        return put_brightness(end, channel, c.brightness, c.reply);
+        let k = channel % 16;
+        end.receiver.brightness[k] = c.brightness;
+        return c.reply;
     } else {
         return c.reply;
     }
