@@ -5,7 +5,7 @@ ghost use Rattle.receiving_end.specs.End.{newEnd, stepReply, stepEnd};
 ghost use Rattle.bench_lent.specs.Code.{zoneCode, partCode, eventCode, replyCode};
 use lent_end::byte;
 use mpe_layout::MpeZone;
-use mpe_receiver::MpeEvent;
+use mpe_zones::MpeEvent;
 use receiving_end::end::End;
 use receiving_end::end::Reply;
 

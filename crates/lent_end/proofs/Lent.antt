@@ -19,13 +19,12 @@ use Rattle.parameters.specs.declared.ParameterState.{ParameterState}
 use Rattle.parameters.specs.declared.MaybeEvent.the-variants.{NoEvent}
 use Rattle.parameters.specs.State as parameter
 use Rattle.mpe_receiver.specs.declared.MpeReceiver.{MpeReceiver}
-use Rattle.mpe_receiver.specs.declared.MpeEvent.the-variants.{Ignored}
-use Rattle.mpe_receiver.specs.declared.Told.{Told}
+use Rattle.mpe_zones.specs.declared.MpeEvent.the-variants.{Ignored}
+use Rattle.mpe_zones.specs.declared.Told.{Told}
 use Rattle.mpe_receiver.specs.State.{withBends, withPressures, withBrightnesses}
-use Rattle.mpe_receiver.specs.Receive.{stored, saidBy}
+use Rattle.mpe_receiver.specs.Receive.{stored, heardOf, settlesBy, settled}
 use Rattle.mpe_receiver.specs.Receive as receiver
-use Rattle.mpe_receiver.specs.Parts.{settlesBy, settled}
-use Rattle.mpe_receiver.proofs.Parts.{heard-parts}
+use Rattle.mpe_receiver.proofs.Parts.{receiver-quiet}
 use Rattle.mpe_receiver.proofs.Settle.{put, unsettled}
 use Rattle.byte_reader.specs.declared.Reader.{Reader}
 use Rattle.byte_reader.specs.declared.Read.{Read}
@@ -40,7 +39,6 @@ use Rattle.lent_end.specs.declared.Placed.{Placed}
 use Rattle.lent_end.specs.declared.Controlled.{Controlled}
 use Rattle.receiving_end.specs.End.{blank, withReader, withReceiver, withParameter, parameterAt, stepped, messageAt, messageStep, answerStep, stepOf, stepReply, stepEnd}
 use Rattle.lent_end.specs.Lent.{readerOnly, bendIn, wordTaken, readTaken, takenOf, placedOf, toldOf, controlledOf, voicedEnd, controlledAt, controlledEnd, toldEnd, toldReply}
-use Rattle.receiving_end.proofs.Quiet.{receiver-quiet}
 use Rattle.lent_end.proofs.Words.{Formed, Fine, read-fine}
 
 -- what a taken byte makes of an end that has the reader after it
@@ -129,9 +127,8 @@ module _ (e : End) (n : Reader) (w : ℕ) (formed : wordForm w ≡ true) where
     controlAfter = stepped (withReceiver (withParameter e k (h .state)) whole) (Message w (t .event))
 
     control-parts : heardStep e w h ≡ controlAfter
-    control-parts =
-        ap (λ got. stepped (withReceiver (withParameter e k (h .state)) (got .receiver)) (Message w (got .event)))
-        (heard-parts r (h .event) (opcodeOf w) k (firstOf w) (secondOf w))
+    unfolding heardOf
+    control-parts = refl
 
     control-heard : messageStep e w ≡ controlAfter
     control-heard =
@@ -155,7 +152,7 @@ module _ (e : End) (n : Reader) (w : ℕ) (formed : wordForm w ≡ true) where
     control-end =
         ap inPlace (channel-mod w)
         ∙ receiver-end (withParameter e k (h .state)) (settlesBy w (t .event)) (eqb (firstOf w) 74) whole (litIn k)
-        (unsettled w control r k (at .role) (at .event) (saidBy (opcodeOf w) (h .event)))
+        (unsettled w control r k (at .role) (at .event) (h .event))
 
     control-reply : controlledAt e w k at .reply ≡ controlAfter .reply
     control-reply = ap (λ j. controlIn j .reply) (channel-mod w)
@@ -169,14 +166,14 @@ module _ (e : End) (n : Reader) (w : ℕ) (formed : wordForm w ≡ true) where
 
     -- the parameters keep what they hold, and the receiver stores the message and no more
     voice-heard : messageStep e w ≡ voiceAfter
+    unfolding heardOf
     voice-heard =
         let only : parameter.wordHeard p w ≡ parameter.hearing p NoEvent = rw other in
         let kept : withParameter e k p ≡ e = ap (withParameters e) (set-getD (e .parameters) k blank) in
         let m = eqb-false (opcodeOf w) 0xB other in
         let stores : receiver.wordHeard r NoEvent w .receiver ≡ put w r =
         receiver-quiet r (opcodeOf w) k (firstOf w) (secondOf w) (λ q. absurd (m q)) in
-        let plain : receiver.wordHeard r NoEvent w .event ≡ at .event =
-        ap (λ x. x .event) (heard-parts r NoEvent (opcodeOf w) k (firstOf w) (secondOf w)) ∙ rw other in
+        let plain : receiver.wordHeard r NoEvent w .event ≡ at .event = rw other in
         formed-step e w formed
         ∙ ap (heardStep e w) only
         ∙ ap₂ stepped (ap₂ withReceiver kept stores) (ap (Message w) plain)

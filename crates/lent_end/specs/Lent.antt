@@ -8,14 +8,14 @@ use Rattle.ump.specs.Word.{opcodeOf, channelOf, firstOf, secondOf}
 use Rattle.parameters.specs.declared.ParameterState.{ParameterState}
 use Rattle.parameters.specs.State as parameter
 use Rattle.mpe_receiver.specs.declared.MpeReceiver.{MpeReceiver}
-use Rattle.mpe_receiver.specs.declared.MpeEvent.{MpeEvent}
-use Rattle.mpe_receiver.specs.declared.MpeEvent.the-variants.{Ignored}
-use Rattle.mpe_receiver.specs.declared.Told.{Told}
-use Rattle.mpe_receiver.specs.declared.Zones.{Zones}
-use Rattle.mpe_receiver.specs.Zones.{roleHeld}
-use Rattle.mpe_receiver.specs.Receive.{byRole, saidBy}
-use Rattle.mpe_receiver.specs.State.{withBends, withPressures, withBrightnesses}
-use Rattle.mpe_receiver.specs.Parts.{zonesOf, newWith, toldAs, settlesBy, settled}
+use Rattle.mpe_zones.specs.declared.MpeEvent.{MpeEvent}
+use Rattle.mpe_zones.specs.declared.MpeEvent.the-variants.{Ignored}
+use Rattle.mpe_zones.specs.declared.Told.{Told}
+use Rattle.mpe_zones.specs.declared.Zones.{Zones}
+use Rattle.mpe_zones.specs.Zones.{roleHeld}
+use Rattle.mpe_zones.specs.Told.{eventOf, saidBy, toldAs}
+use Rattle.mpe_receiver.specs.State.{withBends, withPressures, withBrightnesses, zonesOf}
+use Rattle.mpe_receiver.specs.Receive.{settlesBy, settled}
 use Rattle.byte_reader.specs.declared.Reader.{Reader}
 use Rattle.byte_reader.specs.declared.Read.{Read}
 use Rattle.byte_reader.specs.declared.Read.the-variants as read
@@ -68,8 +68,7 @@ takenOf r b = readTaken (readStep r b .reader) (readStep r b .read)
 
 -- the event of a message by its channel's role, where no parameter event decides
 abbrev pub placedEvent : Zones → ℕ → MpeEvent
-placedEvent z w =
-    byRole (newWith z) (channelOf w) (roleHeld (z .layout) (channelOf w)) (opcodeOf w) (firstOf w) .event
+placedEvent z w = eventOf z (channelOf w) (roleHeld (z .layout) (channelOf w)) (opcodeOf w) (firstOf w)
 
 abbrev pub placedOf : MpeReceiver → ℕ → Placed
 placedOf r w =

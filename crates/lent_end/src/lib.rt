@@ -5,10 +5,10 @@ ghost use Rattle.lent_end.specs.Lent.{readerOnly, bendIn, wordTaken, tak
 use byte_reader::Read;
 use byte_reader::Reader;
 use mpe_layout::MpeRole;
-use mpe_receiver::MpeEvent;
 use mpe_receiver::MpeReceiver;
-use mpe_receiver::Zones;
 use mpe_receiver::settles;
+use mpe_zones::MpeEvent;
+use mpe_zones::Zones;
 use parameters::ParameterState;
 use receiving_end::end::End;
 use receiving_end::end::Reply;

@@ -202,7 +202,8 @@ impl MpeLayout {
         MadeLayout::OutOfRange
     }
 
-    fn is_layout(self) -> bool
+    // The layout is one that `new` accepts.
+    pub fn is_layout(self) -> bool
         ensures { λ r. ⌜ r ≡ legal self ⌝ }
     {
         is_legal(self.lower, self.upper)

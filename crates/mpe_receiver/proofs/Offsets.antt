@@ -14,7 +14,6 @@ use Rattle.mpe_pitch.specs.Pitch.{pitchOffset}
 use Rattle.mpe_pitch.proofs.Offset.{offset-within, sum-fits}
 use Rattle.mpe_pitch.proofs.Order.{within-fits}
 use Rattle.mpe_receiver.specs.declared.MpeReceiver.{MpeReceiver}
-use Rattle.mpe_receiver.specs.State.{monoOf}
 use Rattle.mpe_receiver.specs.Read.{bendAt, sensitivityOf, managerOffset, memberOffset}
 use mathlib.Core.Bool.{true, false}
 

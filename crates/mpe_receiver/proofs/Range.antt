@@ -15,7 +15,7 @@ use Rattle.mpe_pitch.specs.Claims.{Within}
 use Rattle.mpe_pitch.proofs.Order.{widen}
 use Rattle.mpe_pitch.proofs.Offset.{offset-within, sum-within}
 use Rattle.mpe_receiver.specs.declared.MpeReceiver.{MpeReceiver}
-use Rattle.mpe_receiver.specs.Zones.{roleHeld}
+use Rattle.mpe_zones.specs.Zones.{roleHeld}
 use Rattle.mpe_receiver.specs.Read.{bendAt, sensitivityOf, managerOffset, memberOffset, offsetByRole, offsetOf}
 
 by-role : (r : MpeReceiver) (c : ℕ) (role : MpeRole) (z : ℤ) → offsetByRole r c role ≡ given z → Within 2565714 2565400 z

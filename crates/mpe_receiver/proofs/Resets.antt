@@ -1,4 +1,4 @@
--- After a change of layout the channels in the mask read at rest, and the others as before.
+-- Where a change of layout resets channels, those in the mask read at rest, and the others as before.
 -- Assumes nothing.
 use Prim.Native.Nat.{ℕ, zero, suc, _<_, _≤_}
 use mathlib.Core.Path.{_≡_, refl, _∙_}
@@ -13,14 +13,11 @@ use lib.Dec.{lit<}
 use Rattle.ump.specs.Choice.{if_then_else_}
 use Rattle.ump.specs.Packet.{packetValue}
 use Rattle.ump.proofs.Cases.{by-test, of-both}
-use Rattle.mpe_layout.specs.declared.MpeLayout.{MpeLayout}
 use Rattle.mpe_layout.specs.Reset.{named}
 use Rattle.mpe_receiver.specs.declared.MpeReceiver.{MpeReceiver}
-use Rattle.mpe_receiver.specs.State.{withLayout}
-use Rattle.mpe_receiver.specs.Zones.{putWhere, relaid}
+use Rattle.mpe_receiver.specs.Receive.{putWhere, restUpto}
 use Rattle.mpe_receiver.specs.Read.{bendAt, pressureAt, brightnessAt}
 use Rattle.mpe_receiver.specs.WellFormed.{WellFormed}
-use Rattle.mpe_receiver.specs.Claims.{SameZones}
 use Rattle.mpe_receiver.proofs.WellFormed.{put-length}
 
 module _ (hit : ℕ → Bool) (v : ℕ) (l : List ℕ) where
@@ -48,26 +45,18 @@ module _ (hit : ℕ → Bool) (v : ℕ) (l : List ℕ) where
       (put-at n i b (omega arith)))
       (eq-or-lt-of-le (le-of-suc-le-suc h))
 
--- layout, modes and sensitivities after a change of layout
-pub relaid-zones : (r : MpeReceiver) (after : MpeLayout) (mask : ℕ) → SameZones (withLayout r after) (relaid r after mask)
-unfolding relaid
-relaid-zones r after mask = record { same-layout = refl; same-lower = refl; same-upper = refl; same-sensitivity = refl }
-
-module _ (r : MpeReceiver) (after : MpeLayout) (mask channel : ℕ) (w : WellFormed r) where
+module _ (r : MpeReceiver) (mask channel : ℕ) (w : WellFormed r) where
   rested : (v : ℕ) (l : List ℕ) → length l ≡ 16
       → getD (putWhere (named mask) v l 16) (packetValue channel) 0 ≡ (if named mask channel then v else getD l (packetValue channel) 0)
   rested v l e =
       let m : named mask (packetValue channel) ≡ named mask channel = rw mod-mod in
       rw m at (put-at (named mask) v l 16 (packetValue channel) (mod-lt channel (lit< tt)) (omega arith))
 
-  pub relaid-bend : bendAt (relaid r after mask) channel ≡ (if named mask channel then 0x2000 else bendAt r channel)
-  unfolding relaid
-  relaid-bend = rested 0x2000 (r .«pitch_bend») (w .bends)
+  pub rested-bend : bendAt (restUpto r mask 16) channel ≡ (if named mask channel then 0x2000 else bendAt r channel)
+  rested-bend = rested 0x2000 (r .«pitch_bend») (w .bends)
 
-  pub relaid-pressure : pressureAt (relaid r after mask) channel ≡ (if named mask channel then 0 else pressureAt r channel)
-  unfolding relaid
-  relaid-pressure = rested 0 (r .pressure) (w .pressures)
+  pub rested-pressure : pressureAt (restUpto r mask 16) channel ≡ (if named mask channel then 0 else pressureAt r channel)
+  rested-pressure = rested 0 (r .pressure) (w .pressures)
 
-  pub relaid-brightness : brightnessAt (relaid r after mask) channel ≡ (if named mask channel then 64 else brightnessAt r channel)
-  unfolding relaid
-  relaid-brightness = rested 64 (r .brightness) (w .brightnesses)
+  pub rested-brightness : brightnessAt (restUpto r mask 16) channel ≡ (if named mask channel then 64 else brightnessAt r channel)
+  rested-brightness = rested 64 (r .brightness) (w .brightnesses)

@@ -9,7 +9,7 @@ use Rattle.ump.proofs.Cases.{by-test}
 use Rattle.mpe_layout.specs.Reset.{named}
 use Rattle.mpe_receiver.specs.declared.MpeReceiver.{MpeReceiver}
 use Rattle.mpe_receiver.specs.State.{withBends, withPressures, withBrightnesses}
-use Rattle.mpe_receiver.specs.Zones.{putWhere, restUpto}
+use Rattle.mpe_receiver.specs.Receive.{putWhere, restUpto}
 
 -- one channel put to rest where a mask names it
 abbrev pub restAt : MpeReceiver → ℕ → ℕ → MpeReceiver

@@ -1,8 +1,6 @@
 -- Definitions that the contracts cite.
 pub mod State
-pub mod Zones
 pub mod Receive
-pub mod Parts
 pub mod Read
 pub mod WellFormed
 pub mod Claims

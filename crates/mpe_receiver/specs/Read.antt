@@ -16,15 +16,16 @@ use Rattle.mpe_pitch.specs.Pitch.{pitchOffset}
 use Rattle.mpe_receiver.specs.declared.MpeReceiver.{MpeReceiver}
 use Rattle.mpe_receiver.specs.declared.Offset.{Offset}
 use Rattle.mpe_receiver.specs.declared.Offset.the-variants as offset
-use Rattle.mpe_receiver.specs.State.{monoOf}
-use Rattle.mpe_receiver.specs.Zones.{slotOf, sensitivityAt, roleHeld}
+use Rattle.mpe_zones.specs.Zones.{monoOf, roleHeld}
+use Rattle.mpe_zones.specs.Zones as zones
+use Rattle.mpe_receiver.specs.State.{zonesOf}
 
 -- mode 4 is mono, mode 3 poly
 abbrev pub modeOf : MpeReceiver → MpeZone → ℕ
-modeOf r zone = if monoOf r zone then 4 else 3
+modeOf r zone = if monoOf (zonesOf r) zone then 4 else 3
 
 abbrev pub sensitivityOf : MpeReceiver → MpeZone → Bool → MpeSensitivity
-sensitivityOf r zone manager = sensitivityAt (r .sensitivity) (slotOf zone manager)
+sensitivityOf r zone manager = zones.sensitivityOf (zonesOf r) zone manager
 
 -- the channel is taken modulo 16
 abbrev pub bendAt : MpeReceiver → ℕ → ℕ

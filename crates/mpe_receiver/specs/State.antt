@@ -1,13 +1,10 @@
 -- The receiver's state, and one field of it anew.
-use Prim.Native.Nat.{ℕ, zero, suc, _+_}
-use mathlib.Core.Bool.{Bool, true, false}
+use Prim.Native.Nat.{ℕ}
+use mathlib.Core.Bool.{false}
 use mathlib.Core.List.{List}
-use lib.ListN.{set, replicate}
-use Rattle.ump.specs.Choice.{if_then_else_}
-use Rattle.mpe_layout.specs.declared.MpeZone.{MpeZone}
-use Rattle.mpe_layout.specs.declared.MpeZone.the-variants.{Lower, Upper}
-use Rattle.mpe_layout.specs.declared.MpeLayout.{MpeLayout}
+use lib.ListN.{replicate}
 use Rattle.mpe_layout.specs.Layout.{layoutOf}
+use Rattle.mpe_zones.specs.declared.Zones.{Zones}
 use Rattle.mpe_receiver.specs.declared.MpeReceiver.{MpeReceiver}
 
 -- no zone, mode 3, every control at rest; sensitivities 0/0 until a zone is announced or set
@@ -59,53 +56,25 @@ withBrightnesses r l =
       brightness = l;
     }
 
-abbrev pub withSensitivities : MpeReceiver → List ℕ → MpeReceiver
-withSensitivities r l =
+-- the layout, the modes and the sensitivities, apart from the controls of the channels
+abbrev pub zonesOf : MpeReceiver → Zones
+zonesOf r =
     record {
       layout = r .layout;
       «lower_mono» = r .«lower_mono»;
       «upper_mono» = r .«upper_mono»;
-      sensitivity = l;
-      «pitch_bend» = r .«pitch_bend»;
-      pressure = r .pressure;
-      brightness = r .brightness;
+      sensitivity = r .sensitivity;
     }
 
-abbrev pub withLayout : MpeReceiver → MpeLayout → MpeReceiver
-withLayout r l =
+-- other zones, and the channels as they were
+abbrev pub withZones : MpeReceiver → Zones → MpeReceiver
+withZones r z =
     record {
-      layout = l;
-      «lower_mono» = r .«lower_mono»;
-      «upper_mono» = r .«upper_mono»;
-      sensitivity = r .sensitivity;
+      layout = z .layout;
+      «lower_mono» = z .«lower_mono»;
+      «upper_mono» = z .«upper_mono»;
+      sensitivity = z .sensitivity;
       «pitch_bend» = r .«pitch_bend»;
       pressure = r .pressure;
       brightness = r .brightness;
     }
-
--- mode 4 (mono) or 3 (poly) of a zone
-abbrev pub withMono : MpeReceiver → MpeZone → Bool → MpeReceiver
-withMono r Lower m =
-    record {
-      layout = r .layout;
-      «lower_mono» = m;
-      «upper_mono» = r .«upper_mono»;
-      sensitivity = r .sensitivity;
-      «pitch_bend» = r .«pitch_bend»;
-      pressure = r .pressure;
-      brightness = r .brightness;
-    }
-withMono r Upper m =
-    record {
-      layout = r .layout;
-      «lower_mono» = r .«lower_mono»;
-      «upper_mono» = m;
-      sensitivity = r .sensitivity;
-      «pitch_bend» = r .«pitch_bend»;
-      pressure = r .pressure;
-      brightness = r .brightness;
-    }
-
-abbrev pub monoOf : MpeReceiver → MpeZone → Bool
-monoOf r Lower = r .«lower_mono»
-monoOf r Upper = r .«upper_mono»

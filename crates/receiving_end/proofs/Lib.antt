@@ -2,7 +2,6 @@
 pub mod Bytes
 pub mod Messages
 pub mod Parts
-pub mod Quiet
 pub mod Tell
 pub mod Numbers
 pub mod Always

@@ -24,7 +24,6 @@ use Rattle.receiving_end.specs.End.{blank, withReader, withReceiver, wit
 use Rattle.receiving_end.specs.Lists.{heard}
 use Rattle.receiving_end.proofs.Bytes.{heard-append}
 use Rattle.receiving_end.proofs.Parts.{told, statusOf, two-told}
-use Rattle.receiving_end.proofs.Quiet.{NoMode}
 use Rattle.receiving_end.proofs.Tell.{NoEntry, control-told}
 
 -- the bytes of a control change

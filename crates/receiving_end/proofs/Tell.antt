@@ -15,11 +15,12 @@ use Rattle.parameters.specs.State.{number, withRpn, numberStored, controlled, h
 use Rattle.parameters.specs.State as parameter
 use Rattle.mpe_receiver.specs.declared.MpeReceiver.{MpeReceiver}
 use Rattle.mpe_receiver.specs.Receive.{stored, heardOf}
+use Rattle.mpe_zones.proofs.Kept.{NoMode}
+use Rattle.mpe_receiver.proofs.Parts.{receiver-quiet}
 use Rattle.receiving_end.specs.declared.end.End.{End}
 use Rattle.byte_reader.specs.Reader.{readerAt}
 use Rattle.receiving_end.specs.End.{withReader, withReceiver, withParameter, parameterAt}
 use Rattle.receiving_end.proofs.Parts.{said, told, statusOf}
-use Rattle.receiving_end.proofs.Quiet.{NoMode, receiver-quiet}
 
 -- a control change that is no data entry and no step
 pub record NoEntry (a : ℕ) : Type 0 where

@@ -1,4 +1,4 @@
-// The end: the byte call by value, the layout, the reception switches, and every reading.
+// The end: the byte call by value and on a lent end, the layout, the reception switches, and every reading.
 ghost use mathlib.Core.Path.{_≡_};
 ghost use Prim.Native.Nat.{_<_};
 ghost use Rattle.ump.specs.Packet.{packetValue};
@@ -16,9 +16,9 @@ use mpe_layout::MpeLayout;
 use mpe_layout::MpeZone;
 use mpe_layout::ResetMask;
 use mpe_pitch::MpeSensitivity;
-use mpe_receiver::MpeEvent;
 use mpe_receiver::MpeReceiver;
 use mpe_receiver::Offset;
+use mpe_zones::MpeEvent;
 use parameters::MaybeEvent;
 use parameters::ParameterState;
 use parameters::Selection;
@@ -131,6 +131,16 @@ pub fn step(end: End, b: u8) -> Stepped
     let next = s.reader;
     let read = s.read;
     answer(end, next, read)
+}
+
+// The byte call on a lent end: the end is taken apart, and what `step` makes of it is put in its place.
+pub fn byte(end: &mut End, b: u8) -> Reply
+    ensures { λ r. ⌜ (r ≡ stepReply (now (end .entry)) b) × (now (end .exit) ≡ stepEnd (now (end .entry)) b) ⌝ }
+{
+    let e = *end;
+    let s = step(e, b);
+    *end = s.end;
+    s.reply
 }
 
 // The end after all of these bytes.

@@ -6,10 +6,10 @@ use mpe_layout::MpeLayout;
 use mpe_layout::MpeZone;
 use mpe_layout::ResetMask;
 use mpe_pitch::MpeSensitivity;
-use mpe_receiver::MpeEvent;
 use mpe_receiver::MpeReceiver;
 use mpe_receiver::Offset;
 use mpe_receiver::Reply;
+use mpe_zones::MpeEvent;
 use parameters::MaybeEvent;
 use parameters::ParameterEvent;
 

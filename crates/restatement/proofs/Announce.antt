@@ -18,10 +18,12 @@ use Rattle.mpe_layout.specs.declared.MpeZone.the-variants.{Lower, Upper}
 use Rattle.mpe_layout.specs.declared.MpeLayout.{MpeLayout}
 use Rattle.mpe_layout.specs.Layout.{layoutOf, legal, managerOf, leftBeside, withMcm}
 use Rattle.mpe_layout.proofs.Legal.{Bounds, sides, legal-bounds}
+use Rattle.mpe_zones.specs.declared.Zones.{Zones}
+use Rattle.mpe_zones.specs.Zones.{withLayout, activated, activatedIf, announcedTo}
+use Rattle.mpe_zones.specs.Told.{announced}
 use Rattle.mpe_receiver.specs.declared.MpeReceiver.{MpeReceiver}
-use Rattle.mpe_receiver.specs.State.{withLayout}
-use Rattle.mpe_receiver.specs.Zones.{relaid, activated, activatedIf, announcedTo, announcementResets}
-use Rattle.mpe_receiver.specs.Receive.{stored, announced, configured, heardOf}
+use Rattle.mpe_receiver.specs.State.{zonesOf}
+use Rattle.mpe_receiver.specs.Receive.{stored, toldTo, heardOf}
 use Rattle.mpe_sender.proofs.Groups.{manager-lt}
 use Rattle.receiving_end.specs.declared.end.End.{End}
 use Rattle.byte_reader.specs.Reader.{readerAt}
@@ -32,70 +34,51 @@ use Rattle.receiving_end.proofs.Numbers.{entryOf, entry-heard}
 use Rattle.restatement.specs.Messages.{announcement, announcements, bytes}
 use Rattle.restatement.proofs.Bytes.{group-bytes}
 use Rattle.restatement.proofs.Told.{told-all, told-append, heard-formed}
-use Rattle.restatement.proofs.Stage.{cleared-with, zonesAt, zonesOf, Stage, stage-at}
+use Rattle.restatement.proofs.Stage.{cleared-with, zonesAt, Stage, stage-at}
 
 -- RPN 6 with a data entry on a manager announces its zone
-announces : (r : MpeReceiver) (zone : MpeZone) (v : ℕ) → heardOf r (Event (entryOf 6 v)) 0xB (managerOf zone) 6 v ≡ announced r zone v
-unfolding heardOf stored rpnNumbered configured
+announces : (r : MpeReceiver) (zone : MpeZone) (v : ℕ) → heardOf r (Event (entryOf 6 v)) 0xB (managerOf zone) 6 v ≡ toldTo r (announced (zonesOf r) zone v)
+unfolding heardOf stored rpnNumbered
 announces r Lower v = refl
 announces r Upper v = refl
 
--- what an announcement does to the zones
-abbrev pub announcedZones : MpeReceiver → MpeZone → ℕ → MpeReceiver
+-- what an announcement makes of the zones
+abbrev pub announcedZones : Zones → MpeZone → ℕ → Zones
 announcedZones z zone v = activatedIf v (withLayout z (withMcm (z .layout) zone v)) zone
-
-activated-zones : (r : MpeReceiver) (zone : MpeZone) → zonesOf (activated r zone) ≡ activated (zonesOf r) zone
-unfolding activated
-activated-zones r Lower = refl
-activated-zones r Upper = refl
-
-relaid-zones : (r : MpeReceiver) (l : MpeLayout) (mask : ℕ) → zonesOf (relaid r l mask) ≡ withLayout (zonesOf r) l
-unfolding relaid
-relaid-zones r l mask = refl
-
-if-zones : (v : ℕ) (r : MpeReceiver) (zone : MpeZone) → zonesOf (activatedIf v r zone) ≡ activatedIf v (zonesOf r) zone
-if-zones v r zone = by-test (ltb 0 v) (λ e. rw e (activated-zones r zone)) (λ e. rw e)
-
-laid-zones : (v : ℕ) (r : MpeReceiver) (zone : MpeZone) (l : MpeLayout) (mask : ℕ)
-    → zonesOf (activatedIf v (relaid r l mask) zone) ≡ activatedIf v (withLayout (zonesOf r) l) zone
-laid-zones v r zone l mask = if-zones v (relaid r l mask) zone ∙ ap (λ z. activatedIf v z zone) (relaid-zones r l mask)
 
 lawful-to : (l : MpeLayout) (zone : MpeZone) (v : ℕ) → legal l ≡ true → announcedTo l zone v ≡ withMcm l zone v
 lawful-to l zone v h = rw h
 
-announced-zones : (r : MpeReceiver) (zone : MpeZone) (v : ℕ) → legal (r .layout) ≡ true → v ≤ 15
-    → zonesOf (announced r zone v .receiver) ≡ announcedZones (zonesOf r) zone v
+announced-zones : (z : Zones) (zone : MpeZone) (v : ℕ) → legal (z .layout) ≡ true → v ≤ 15 → announced z zone v .zones ≡ announcedZones z zone v
 unfolding announced
-announced-zones r zone v h b =
-    rw (le-ltb 15 v b)
-    (laid-zones v r zone (announcedTo (r .layout) zone v) (announcementResets (r .layout) (announcedTo (r .layout) zone v) zone)
-    ∙ ap (λ l. activatedIf v (withLayout (zonesOf r) l) zone) (lawful-to (r .layout) zone v h))
+announced-zones z zone v h b =
+    rw (le-ltb 15 v b) (ap (λ l. activatedIf v (withLayout z l) zone) (lawful-to (z .layout) zone v h))
 
 -- one announcement on the way
-pub announced-stage : {z : MpeReceiver} (e : End) (zone : MpeZone) (v : ℕ) → v ≤ 15 → Stage z e → Stage (announcedZones z zone v) (told-all e (announcement zone v))
+pub announced-stage : {z : Zones} (e : End) (zone : MpeZone) (v : ℕ) → v ≤ 15 → Stage z e → Stage (announcedZones z zone v) (told-all e (announcement zone v))
 announced-stage e zone v b s =
     let k = managerOf zone in
     let hk = manager-lt zone in
     let f = s .formed in
     let c = s .cleared k hk in
-    stage-at e (told-all e (announcement zone v)) k (readerAt (statusOf 0xB k) 0x80) (withRpn (parameterAt e k) (number 0 6)) (announced (e .receiver) zone v .receiver) s
+    stage-at e (told-all e (announcement zone v)) k (readerAt (statusOf 0xB k) 0x80) (withRpn (parameterAt e k) (number 0 6)) (toldTo (e .receiver) (announced (zonesOf (e .receiver)) zone v) .receiver) s
     (heard-formed e (bytes (announcement zone v)) f)
     (ap (heard e) (group-bytes k 6 v hk (omega arith) (omega arith))
     ∙ entry-heard e k 6 v hk (omega arith) (omega arith) (f .channels) (c .rpn-on) refl
     ∙ ap (λ h. withReceiver (withParameter (withReader e (readerAt (statusOf 0xB k) 0x80)) k (withRpn (parameterAt e k) (number 0 6))) (h .receiver)) (announces (e .receiver) zone v))
     (cleared-with (parameterAt e k) (number 0 6) c)
-    (announced-zones (e .receiver) zone v (f .receiver-formed .lawful) b ∙ ap (λ y. announcedZones y zone v) (s .zones))
+    (announced-zones (zonesOf (e .receiver)) zone v (f .receiver-formed .lawful) b ∙ ap (λ y. announcedZones y zone v) (s .zones))
 
 -- semitones of Lower's manager and members and of Upper's, all with no cents
 abbrev pub semitones : ℕ → ℕ → ℕ → ℕ → List ℕ
 semitones a b c d = a ∷ 0 ∷ b ∷ 0 ∷ c ∷ 0 ∷ d ∷ 0 ∷ []
 
 -- both zones with their defaults
-abbrev pub defaultZones : MpeLayout → MpeReceiver
+abbrev pub defaultZones : MpeLayout → Zones
 defaultZones l = zonesAt l false false (semitones 2 48 2 48)
 
 -- whatever they were
-both-active : (z : MpeReceiver) (l : List ℕ) → length l ≡ 8
+both-active : (z : Zones) (l : List ℕ) → length l ≡ 8
     → announcedZones (announcedZones (zonesAt (z .layout) (z .«lower_mono») (z .«upper_mono») l) Lower 7) Upper 7 ≡ defaultZones (layoutOf 7 7)
 unfolding activated withMcm leftBeside
 both-active z [] h = absurd (omega arith)
@@ -139,7 +122,7 @@ restated-layout l h =
     rw (le-ltb 15 (l .lower) (b .in-lower), le-ltb 15 (l .upper) (b .in-upper), left-kept (l .upper) (l .lower) b)
 
 -- all four
-pub announcements-stage : {z : MpeReceiver} (e : End) (l : MpeLayout) → legal l ≡ true → Stage z e → Stage (defaultZones l) (told-all e (announcements l))
+pub announcements-stage : {z : Zones} (e : End) (l : MpeLayout) → legal l ≡ true → Stage z e → Stage (defaultZones l) (told-all e (announcements l))
 announcements-stage {z} e l h s =
     let b = legal-bounds l h in
     let s1 = announced-stage e Lower 7 (omega arith) s in
@@ -148,7 +131,7 @@ announcements-stage {z} e l h s =
     let s4 = announced-stage _ Upper (l .upper) (b .in-upper) s3 in
     let known : announcedZones (announcedZones z Lower 7) Upper 7 ≡ defaultZones (layoutOf 7 7) =
     ap (λ y. announcedZones (announcedZones y Lower 7) Upper 7) (sym (s .zones))
-    ∙ both-active (e .receiver) (e .receiver .sensitivity) (s .formed .receiver-formed .sensitivities) in
+    ∙ both-active (zonesOf (e .receiver)) (e .receiver .sensitivity) (s .formed .receiver-formed .sensitivities) in
     let told : told-all e (announcements l) ≡ told-all (told-all (told-all (told-all e (announcement Lower 7)) (announcement Upper 7)) (announcement Lower (l .lower))) (announcement Upper (l .upper)) =
     told-append e (announcement Lower 7 ++ announcement Upper 7 ++ announcement Lower (l .lower)) (announcement Upper (l .upper))
     ∙ ap (λ x. told-all x (announcement Upper (l .upper)))

@@ -7,6 +7,7 @@ use native.Mathlib.Omega.{arith}
 use native.Mathlib.Nat.{not-suc-le-zero}
 use Rattle.parameters.specs.declared.ParameterState.{ParameterState}
 use Rattle.parameters.specs.State.{nullNumber, nulled, numberStored}
+use Rattle.mpe_receiver.specs.State.{zonesOf}
 use Rattle.mpe_receiver.specs.Receive.{stored}
 use Rattle.receiving_end.specs.declared.end.End.{End}
 use Rattle.byte_reader.specs.Reader.{readerAt}
@@ -16,7 +17,7 @@ use Rattle.receiving_end.proofs.Parts.{statusOf}
 use Rattle.receiving_end.proofs.Tell.{control-told}
 use Rattle.restatement.specs.Messages.{resetOn, resets, bytes}
 use Rattle.restatement.proofs.Told.{told-all, control-all, heard-formed, each-told}
-use Rattle.restatement.proofs.Stage.{zonesOf, Stage, all-set}
+use Rattle.restatement.proofs.Stage.{Stage, all-set}
 
 -- reception on for registered and off for non-registered numbers
 pub record AsNew (p : ParameterState) : Type 0 where

@@ -14,9 +14,7 @@ use Rattle.ump.proofs.Cases.{by-test}
 use Rattle.parameters.specs.State.{newState}
 use Rattle.mpe_layout.specs.declared.MpeZone.{MpeZone}
 use Rattle.mpe_layout.specs.declared.MpeZone.the-variants.{Lower, Upper}
-use Rattle.mpe_receiver.specs.declared.MpeReceiver.{MpeReceiver}
-use Rattle.mpe_receiver.specs.State.{monoOf}
-use Rattle.mpe_receiver.specs.Zones.{slotOf, sensitivityAt}
+use Rattle.mpe_zones.specs.Zones.{monoOf, slotOf, sensitivityAt}
 use Rattle.receiving_end.specs.declared.end.End.{End}
 use Rattle.receiving_end.specs.End.{newEnd, blank, parameterAt, stepEnd}
 use Rattle.receiving_end.specs.Lists.{Call, mode, sensitivity, laidOut, counted, ranged, after, answers, heard}
@@ -27,7 +25,6 @@ use Rattle.restatement.specs.Settings.{zoneOf, membersIn, isMono, allowe
 use Rattle.restatement.specs.Messages.{restatement}
 use Rattle.restatement.specs.Demand.{SwitchesAsNew, Arrives, whole, by-value, lent, between-by-value, between-lent, shownSensitivity, shownMode, Shown, Demand}
 use Rattle.restatement.proofs.Allowed.{allowed-zone}
-use Rattle.restatement.proofs.Stage.{zonesOf}
 use Rattle.restatement.proofs.Clear.{AsNew}
 use Rattle.restatement.proofs.Settle.{Controlled}
 use Rattle.restatement.proofs.Restated.{heldBy, shownZones, restated, same-end}
@@ -84,10 +81,6 @@ module _ (s : Settings) (h : allowed s ≡ true) where
   mono-shown Lower = mode-shown Lower
   mono-shown Upper = mode-shown Upper
 
-  mono-of-zones : (r : MpeReceiver) (zone : MpeZone) {z : MpeReceiver} → zonesOf r ≡ z → monoOf r zone ≡ monoOf z zone
-  mono-of-zones r Lower p = ap (λ z. z .«lower_mono») p
-  mono-of-zones r Upper p = ap (λ z. z .«upper_mono») p
-
   shown-by : (e : End) → Controlled s h (shownZones s) 16 e → Shown s e
   shown-by e c =
       let z = c .settling .stage .zones in
@@ -95,7 +88,7 @@ module _ (s : Settings) (h : allowed s ≡ true) where
         shows-layout = ap (λ z. laidOut (z .layout)) z;
         shows-sensitivity = λ zone manager.
             ap (λ z. ranged (sensitivityAt (z .sensitivity) (slotOf zone manager))) z ∙ ap ranged (sensitivity-shown zone manager);
-        shows-mode = λ zone. ap (λ m. counted (modeFor m)) (mono-of-zones (e .receiver) zone z) ∙ ap counted (mono-shown zone);
+        shows-mode = λ zone. ap (λ m. counted (modeFor m)) (ap (λ z. monoOf z zone) z) ∙ ap counted (mono-shown zone);
         shows-bend = λ channel. ap counted (c .bends-below (channel % 16) (omega arith));
         shows-pressure = λ channel. ap counted (c .pressures-below (channel % 16) (omega arith));
         shows-brightness = λ channel. ap counted (c .brightnesses-below (channel % 16) (omega arith));

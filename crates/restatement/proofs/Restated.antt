@@ -13,8 +13,10 @@ use Rattle.ump.proofs.Cases.{by-test}
 use Rattle.mpe_layout.specs.declared.MpeZone.{MpeZone}
 use Rattle.mpe_layout.specs.declared.MpeZone.the-variants.{Lower, Upper}
 use Rattle.mpe_pitch.specs.declared.MpeSensitivity.{MpeSensitivity}
+use Rattle.mpe_zones.specs.declared.Zones.{Zones}
+use Rattle.mpe_zones.specs.Zones.{withMono}
 use Rattle.mpe_receiver.specs.declared.MpeReceiver.{MpeReceiver}
-use Rattle.mpe_receiver.specs.State.{withBends, withPressures, withBrightnesses, withMono}
+use Rattle.mpe_receiver.specs.State.{withBends, withPressures, withBrightnesses, zonesOf, withZones}
 use Rattle.receiving_end.specs.declared.end.End.{End}
 use Rattle.receiving_end.specs.End.{blank, parameterAt}
 use Rattle.receiving_end.specs.WellFormed.{EndFormed}
@@ -37,19 +39,19 @@ shownMono s zone = if eqb (membersIn s zone) 0 then false else isMono (zoneOf s 
 abbrev shownSemitones : Settings → MpeZone → Bool → ℕ
 shownSemitones s zone manager = shownSensitivity s zone manager .semitones
 
-abbrev pub shownZones : Settings → MpeReceiver
+abbrev pub shownZones : Settings → Zones
 shownZones s =
     zonesAt (s .layout) (shownMono s Lower) (shownMono s Upper)
     (semitones (shownSemitones s Lower true) (shownSemitones s Lower false) (shownSemitones s Upper true) (shownSemitones s Upper false))
 
-sensed-layout : (s : Settings) (zone : MpeZone) (z : MpeReceiver) → sensedFor s zone z .layout ≡ z .layout
+sensed-layout : (s : Settings) (zone : MpeZone) (z : Zones) → sensedFor s zone z .layout ≡ z .layout
 sensed-layout s zone z = by-test (eqb (membersIn s zone) 0) (λ t. rw t) (λ t. rw t)
 
-mono-layout : (z : MpeReceiver) (zone : MpeZone) (mono : Bool) → withMono z zone mono .layout ≡ z .layout
+mono-layout : (z : Zones) (zone : MpeZone) (mono : Bool) → withMono z zone mono .layout ≡ z .layout
 mono-layout z Lower mono = refl
 mono-layout z Upper mono = refl
 
-moded-layout : (s : Settings) (zone : MpeZone) (z : MpeReceiver) → modedFor s zone z .layout ≡ z .layout
+moded-layout : (s : Settings) (zone : MpeZone) (z : Zones) → modedFor s zone z .layout ≡ z .layout
 moded-layout s zone z =
     by-test (eqb (membersIn s zone) 0) (λ t. rw t) (λ t. rw t (mono-layout z zone (isMono (zoneOf s zone))))
 
@@ -57,11 +59,11 @@ moded-layout s zone z =
 abbrev pub heldBy : Bool → Settings → MpeZone → Bool → MpeSensitivity
 heldBy empty s zone manager = if empty then defaultFor manager else record { semitones = semitonesOf s zone manager; cents = 0 }
 
-abbrev sensedBy : Bool → Settings → MpeZone → MpeReceiver → MpeReceiver
+abbrev sensedBy : Bool → Settings → MpeZone → Zones → Zones
 sensedBy empty s zone z =
     if empty then z else sensed (sensed z zone true (zoneOf s zone .manager)) zone false (zoneOf s zone .member)
 
-abbrev modedBy : Bool → Settings → MpeZone → MpeReceiver → MpeReceiver
+abbrev modedBy : Bool → Settings → MpeZone → Zones → Zones
 modedBy empty s zone z = if empty then z else withMono z zone (isMono (zoneOf s zone))
 
 zones-by : (s : Settings) (t u : Bool)
@@ -95,13 +97,13 @@ module _ (s : Settings) (h : allowed s ≡ true) where
         grow (Stage (defaultZones (s .layout))) e resets (announcements (s .layout))
         (announcements-stage (told-all e resets) (s .layout) (allowed-legal s h) (reset-stage e f new))
 
-    abbrev z1 : MpeReceiver
+    abbrev z1 : Zones
     z1 = sensedFor s Lower (defaultZones (s .layout))
 
-    abbrev z2 : MpeReceiver
+    abbrev z2 : Zones
     z2 = sensedFor s Upper z1
 
-    abbrev z3 : MpeReceiver
+    abbrev z3 : Zones
     z3 = modedFor s Lower z2
 
     l1 : z1 .layout ≡ s .layout
@@ -139,7 +141,7 @@ module _ (s : Settings) (h : allowed s ≡ true) where
   same-list l m g p q a b =
       ext-getD 0 l m (p ∙ sym q) (λ i hi. let k : i < 16 = omega arith in a i k ∙ sym (b i k))
 
-  module _ {z : MpeReceiver} (e x : End) (a : Controlled s h z 16 e) (b : Controlled s h z 16 x) where
+  module _ {z : Zones} (e x : End) (a : Controlled s h z 16 e) (b : Controlled s h z 16 x) where
     same-parameters : e .parameters ≡ x .parameters
     same-parameters =
         let p = a .settling .stage .formed .channels in
@@ -147,8 +149,8 @@ module _ (s : Settings) (h : allowed s ≡ true) where
         ext-getD blank (e .parameters) (x .parameters) (p ∙ sym q)
         (λ i hi. let k : i < 16 = omega arith in a .settling .settled-below i k ∙ sym (b .settling .settled-below i k))
 
-    abbrev with : MpeReceiver → List ℕ → List ℕ → List ℕ → MpeReceiver
-    with r bends pressures brightnesses = withBends (withPressures (withBrightnesses r brightnesses) pressures) bends
+    abbrev with : Zones → List ℕ → List ℕ → List ℕ → MpeReceiver
+    with z bends pressures brightnesses = withBends (withPressures (withBrightnesses (withZones (e .receiver) z) brightnesses) pressures) bends
 
     same-receiver : e .receiver ≡ x .receiver
     same-receiver =
@@ -157,9 +159,9 @@ module _ (s : Settings) (h : allowed s ≡ true) where
         let r = e .receiver in
         let t = x .receiver in
         ap (λ y. with y (r .«pitch_bend») (r .pressure) (r .brightness)) (a .settling .stage .zones ∙ sym (b .settling .stage .zones))
-        ∙ ap (λ y. with t y (r .pressure) (r .brightness)) (same-list (r .«pitch_bend») (t .«pitch_bend») (bendOf s) (f .bends) (g .bends) (a .bends-below) (b .bends-below))
-        ∙ ap (λ y. with t (t .«pitch_bend») y (r .brightness)) (same-list (r .pressure) (t .pressure) (pressureOf s) (f .pressures) (g .pressures) (a .pressures-below) (b .pressures-below))
-        ∙ ap (λ y. with t (t .«pitch_bend») (t .pressure) y) (same-list (r .brightness) (t .brightness) (brightnessOf s) (f .brightnesses) (g .brightnesses) (a .brightnesses-below) (b .brightnesses-below))
+        ∙ ap (λ y. with (zonesOf t) y (r .pressure) (r .brightness)) (same-list (r .«pitch_bend») (t .«pitch_bend») (bendOf s) (f .bends) (g .bends) (a .bends-below) (b .bends-below))
+        ∙ ap (λ y. with (zonesOf t) (t .«pitch_bend») y (r .brightness)) (same-list (r .pressure) (t .pressure) (pressureOf s) (f .pressures) (g .pressures) (a .pressures-below) (b .pressures-below))
+        ∙ ap (λ y. with (zonesOf t) (t .«pitch_bend») (t .pressure) y) (same-list (r .brightness) (t .brightness) (brightnessOf s) (f .brightnesses) (g .brightnesses) (a .brightnesses-below) (b .brightnesses-below))
 
     pub same-end : e ≡ x
     same-end =

@@ -19,16 +19,18 @@ use Rattle.parameters.specs.State.{number, withRpn, numberStored, controlled, h
 use Rattle.parameters.specs.State as parameter
 use Rattle.mpe_layout.specs.declared.MpeZone.{MpeZone}
 use Rattle.mpe_layout.specs.declared.MpeZone.the-variants.{Lower, Upper}
-use Rattle.mpe_layout.specs.declared.MpeRole.{MpeRole}
-use Rattle.mpe_layout.specs.declared.MpeRole.the-variants.{Manager, Member}
 use Rattle.mpe_layout.specs.declared.MpeLayout.{MpeLayout}
 use Rattle.mpe_layout.specs.Layout.{legal, ofLegal, membersOf, managerOf, lowestOf, lowestOrNone, roleOf}
 use Rattle.mpe_layout.proofs.Legal.{members-le}
 use Rattle.mpe_layout.proofs.Roles.{manager-role, member-role, lowest-role}
+use Rattle.mpe_zones.specs.declared.Zones.{Zones}
+use Rattle.mpe_zones.specs.Zones.{withSensitivities, withMono, slotOf, sensitivityPut, roleHeld, isLowest}
+use Rattle.mpe_zones.specs.Told.{onMember, eventOf, modeMessage, modeSet}
+use Rattle.mpe_zones.specs.Told as zones
+use Rattle.mpe_zones.proofs.Kept.{roleFor, rpnZero}
 use Rattle.mpe_receiver.specs.declared.MpeReceiver.{MpeReceiver}
-use Rattle.mpe_receiver.specs.State.{withSensitivities, withMono}
-use Rattle.mpe_receiver.specs.Zones.{slotOf, sensitivityPut, roleHeld, isLowest}
-use Rattle.mpe_receiver.specs.Receive.{stored, rpnZero, sensitivityByRole, onMember, byRole, modeMessage, heardOf}
+use Rattle.mpe_receiver.specs.State.{zonesOf}
+use Rattle.mpe_receiver.specs.Receive.{stored, heardOf}
 use Rattle.mpe_sender.specs.Writers.{controlWord, sensitivityGroup}
 use Rattle.mpe_sender.specs.Zone.{zoneGroups, channelAt, semitonesAt, groupAt, groups, zoneWords}
 use Rattle.mpe_sender.proofs.Groups.{manager-lt}
@@ -46,57 +48,48 @@ use Rattle.restatement.proofs.Allowed.{allowed-legal, allowed-zone}
 use Rattle.restatement.proofs.Made.{lowest-lt}
 use Rattle.restatement.proofs.Bytes.{group-bytes}
 use Rattle.restatement.proofs.Told.{told-all, told-append, control-all, heard-formed}
-use Rattle.restatement.proofs.Stage.{cleared-with, zonesOf, Stage, stage-at}
-
--- the role of a zone's manager or members
-abbrev roleFor : MpeZone → Bool → MpeRole
-roleFor zone true = Manager zone
-roleFor zone false = Member zone
+use Rattle.restatement.proofs.Stage.{cleared-with, Stage, stage-at}
 
 held : (l : MpeLayout) (k : ℕ) → legal l ≡ true → k < 16 → roleHeld l k ≡ roleOf l k
 held l k h hk = let m : k % 16 ≡ k = omega arith in rw (h, m)
 
 -- RPN 0 with a data entry
-put-entry : (r : MpeReceiver) (k v : ℕ) (zone : MpeZone) (manager : Bool) → v < 128
-    → sensitivityByRole r k (roleFor zone manager) (entryOf 0 v) 0xB 6 .receiver
-    ≡ withSensitivities r (sensitivityPut (r .sensitivity) (slotOf zone manager) v 0)
-unfolding rpnZero
-put-entry r k v zone true h =
+put-entry : (z : Zones) (v : ℕ) (zone : MpeZone) (manager : Bool) → v < 128
+    → rpnZero z zone manager (entryOf 0 v) ≡ withSensitivities z (sensitivityPut (z .sensitivity) (slotOf zone manager) v 0)
+put-entry z v zone true h =
     let s : v % 128 * 128 / 128 ≡ v = omega arith in
     let c : v % 128 * 128 % 128 ≡ 0 = omega arith in
     rw (s, c)
-put-entry r k v zone false h =
+put-entry z v zone false h =
     let s : v % 128 * 128 / 128 ≡ v = omega arith in
     let c : v % 128 * 128 % 128 ≡ 0 = omega arith in
     rw (s, c)
 
 entry-acts : (r : MpeReceiver) (k v : ℕ) (zone : MpeZone) (manager : Bool) → legal (r .layout) ≡ true → k < 16 → v < 128
     → roleOf (r .layout) k ≡ roleFor zone manager
-    → heardOf r (Event (entryOf 0 v)) 0xB k 6 v .receiver ≡ withSensitivities r (sensitivityPut (r .sensitivity) (slotOf zone manager) v 0)
+    → zonesOf (heardOf r (Event (entryOf 0 v)) 0xB k 6 v .receiver) ≡ withSensitivities (zonesOf r) (sensitivityPut (r .sensitivity) (slotOf zone manager) v 0)
 unfolding heardOf stored rpnNumbered
 entry-acts r k v zone manager h hk hv role =
-    ap (λ ro. sensitivityByRole r k ro (entryOf 0 v) 0xB 6 .receiver) (held (r .layout) k h hk ∙ role)
-    ∙ put-entry r k v zone manager hv
+    ap (λ ro. zones.sensed (zonesOf r) ro (entryOf 0 v) .zones) (held (r .layout) k h hk ∙ role)
+    ∙ put-entry (zonesOf r) v zone manager hv
 
 -- the zones with other sensitivities of a zone's manager or members
-abbrev pub sensed : MpeReceiver → MpeZone → Bool → ℕ → MpeReceiver
+abbrev pub sensed : Zones → MpeZone → Bool → ℕ → Zones
 sensed z zone manager v = withSensitivities z (sensitivityPut (z .sensitivity) (slotOf zone manager) v 0)
 
 -- one group on the way
-group-stage : {z : MpeReceiver} (e : End) (k v : ℕ) (zone : MpeZone) (manager : Bool) → k < 16 → v < 128
+group-stage : {z : Zones} (e : End) (k v : ℕ) (zone : MpeZone) (manager : Bool) → k < 16 → v < 128
     → roleOf (z .layout) k ≡ roleFor zone manager → Stage z e → Stage (sensed z zone manager v) (told-all e (sensitivityGroup k v))
 group-stage e k v zone manager hk hv role s =
     let f = s .formed in
     let c = s .cleared k hk in
     let r = e .receiver in
-    stage-at e (told-all e (sensitivityGroup k v)) k (readerAt (statusOf 0xB k) 0x80) (withRpn (parameterAt e k) (number 0 0)) (sensed r zone manager v) s
+    stage-at e (told-all e (sensitivityGroup k v)) k (readerAt (statusOf 0xB k) 0x80) (withRpn (parameterAt e k) (number 0 0)) (heardOf r (Event (entryOf 0 v)) 0xB k 6 v .receiver) s
     (heard-formed e (bytes (sensitivityGroup k v)) f)
-    (ap (heard e) (group-bytes k 0 v hk (omega arith) hv)
-    ∙ entry-heard e k 0 v hk (omega arith) hv (f .channels) (c .rpn-on) refl
-    ∙ ap (λ x. withReceiver (withParameter (withReader e (readerAt (statusOf 0xB k) 0x80)) k (withRpn (parameterAt e k) (number 0 0))) x)
-    (entry-acts r k v zone manager (f .receiver-formed .lawful) hk hv (ap (λ z. roleOf (z .layout) k) (s .zones) ∙ role)))
+    (ap (heard e) (group-bytes k 0 v hk (omega arith) hv) ∙ entry-heard e k 0 v hk (omega arith) hv (f .channels) (c .rpn-on) refl)
     (cleared-with (parameterAt e k) (number 0 0) c)
-    (ap (λ z. sensed z zone manager v) (s .zones))
+    (entry-acts r k v zone manager (f .receiver-formed .lawful) hk hv (ap (λ z. roleOf (z .layout) k) (s .zones) ∙ role)
+    ∙ ap (λ z. sensed z zone manager v) (s .zones))
 
 -- the same put again
 put-again : (l : List ℕ) (k v : ℕ) → sensitivityPut (sensitivityPut l k v 0) k v 0 ≡ sensitivityPut l k v 0
@@ -105,25 +98,25 @@ put-again l k v =
     ∙ set-set (set l k v) (k + 1) 0 0
 
 -- the zones after n groups: the manager's, then the members'
-sensedBy : MpeReceiver → MpeZone → ℕ → ℕ → ℕ → MpeReceiver
+sensedBy : Zones → MpeZone → ℕ → ℕ → ℕ → Zones
 sensedBy z zone a b zero = z
 sensedBy z zone a b (suc zero) = sensed z zone true a
 sensedBy z zone a b (suc (suc n)) = sensed (sensed z zone true a) zone false b
 
-sensed-layout : (z : MpeReceiver) (zone : MpeZone) (a b n : ℕ) → sensedBy z zone a b n .layout ≡ z .layout
+sensed-layout : (z : Zones) (zone : MpeZone) (a b n : ℕ) → sensedBy z zone a b n .layout ≡ z .layout
 unfolding sensedBy
 sensed-layout z zone a b zero = refl
 sensed-layout z zone a b (suc zero) = refl
 sensed-layout z zone a b (suc (suc n)) = refl
 
 -- one member more
-one-member : (z : MpeReceiver) (zone : MpeZone) (a b n : ℕ) → sensed (sensedBy z zone a b (suc n)) zone false b ≡ sensed (sensed z zone true a) zone false b
+one-member : (z : Zones) (zone : MpeZone) (a b n : ℕ) → sensed (sensedBy z zone a b (suc n)) zone false b ≡ sensed (sensed z zone true a) zone false b
 unfolding sensedBy
 one-member z zone a b zero = refl
 one-member z zone a b (suc n) =
     ap (withSensitivities z) (put-again (sensitivityPut (z .sensitivity) (slotOf zone true) a 0) (slotOf zone false) b)
 
-module _ (z : MpeReceiver) (zone : MpeZone) (a b : ℕ) (h : legal (z .layout) ≡ true) (some : 0 < membersOf (z .layout) zone) (ha : a < 128) (hb : b < 128) where
+module _ (z : Zones) (zone : MpeZone) (a b : ℕ) (h : legal (z .layout) ≡ true) (some : 0 < membersOf (z .layout) zone) (ha : a < 128) (hb : b < 128) where
   abbrev first : ℕ → List ℕ
   first n = groups (zoneGroups (managerOf zone) (lowestOf (z .layout) zone) a b) n
 
@@ -163,11 +156,11 @@ module _ (z : MpeReceiver) (zone : MpeZone) (a b : ℕ) (h : legal (z .layout) �
       (groups-stage (membersOf (z .layout) zone + 1) e (omega arith) s)
 
 -- C. the sensitivities of a zone, if it has members
-abbrev pub sensedFor : Settings → MpeZone → MpeReceiver → MpeReceiver
+abbrev pub sensedFor : Settings → MpeZone → Zones → Zones
 sensedFor s zone z =
     if eqb (membersIn s zone) 0 then z else sensed (sensed z zone true (zoneOf s zone .manager)) zone false (zoneOf s zone .member)
 
-pub sensitivities-stage : {z : MpeReceiver} (s : Settings) (zone : MpeZone) (e : End) → allowed s ≡ true → z .layout ≡ s .layout → Stage z e
+pub sensitivities-stage : {z : Zones} (s : Settings) (zone : MpeZone) (e : End) → allowed s ≡ true → z .layout ≡ s .layout → Stage z e
     → Stage (sensedFor s zone z) (told-all e (sensitivities s zone))
 unfolding sensitivities bytes heard
 sensitivities-stage {z} s zone e h same st =
@@ -202,20 +195,18 @@ is-lowest l zone h some =
     rw (h, n, eq-eqb (lowestOf l zone) (lowestOf l zone) refl)
 
 mode-acts : (r : MpeReceiver) (zone : MpeZone) (mono : Bool) (v : ℕ) → legal (r .layout) ≡ true → 0 < membersOf (r .layout) zone
-    → heardOf r NoEvent 0xB (lowestOf (r .layout) zone) (modeController mono) v .receiver ≡ withMono r zone mono
+    → zonesOf (heardOf r NoEvent 0xB (lowestOf (r .layout) zone) (modeController mono) v .receiver) ≡ withMono (zonesOf r) zone mono
 unfolding heardOf stored onMember
 mode-acts r zone true v h some =
     let k = lowestOf (r .layout) zone in
-    ap (λ ro. byRole r k ro 0xB 126 .receiver) (held (r .layout) k h (lowest-lt (r .layout) zone h some) ∙ lowest-role (r .layout) zone h some)
-    ∙ ap (λ t. modeMessage r zone t true .receiver) (is-lowest (r .layout) zone h some)
+    let z = zonesOf r in
+    ap (λ ro. modeSet z (eventOf z k ro 0xB 126) 126) (held (r .layout) k h (lowest-lt (r .layout) zone h some) ∙ lowest-role (r .layout) zone h some)
+    ∙ ap (λ t. modeSet z (modeMessage zone t) 126) (is-lowest (r .layout) zone h some)
 mode-acts r zone false v h some =
     let k = lowestOf (r .layout) zone in
-    ap (λ ro. byRole r k ro 0xB 127 .receiver) (held (r .layout) k h (lowest-lt (r .layout) zone h some) ∙ lowest-role (r .layout) zone h some)
-    ∙ ap (λ t. modeMessage r zone t false .receiver) (is-lowest (r .layout) zone h some)
-
-mono-zones : (r : MpeReceiver) (zone : MpeZone) (mono : Bool) → zonesOf (withMono r zone mono) ≡ withMono (zonesOf r) zone mono
-mono-zones r Lower mono = refl
-mono-zones r Upper mono = refl
+    let z = zonesOf r in
+    ap (λ ro. modeSet z (eventOf z k ro 0xB 127) 127) (held (r .layout) k h (lowest-lt (r .layout) zone h some) ∙ lowest-role (r .layout) zone h some)
+    ∙ ap (λ t. modeSet z (modeMessage zone t) 127) (is-lowest (r .layout) zone h some)
 
 stays : (p : ParameterState) (mono : Bool) (v : ℕ) → parameter.heardOf p 0xB (modeController mono) v ≡ hearing p NoEvent
 unfolding controlled numberStored
@@ -223,7 +214,7 @@ stays p true v = refl
 stays p false v = refl
 
 -- one mode message on the way
-mode-stage : {z : MpeReceiver} (e : End) (zone : MpeZone) (mono : Bool) (v : ℕ) → legal (z .layout) ≡ true → 0 < membersOf (z .layout) zone → v < 0x80
+mode-stage : {z : Zones} (e : End) (zone : MpeZone) (mono : Bool) (v : ℕ) → legal (z .layout) ≡ true → 0 < membersOf (z .layout) zone → v < 0x80
     → Stage z e → Stage (withMono z zone mono) (told-all e (controlWord (lowestOf (z .layout) zone) (modeController mono) v ∷ []))
 mode-stage {z} e zone mono v h some hv s =
     let k = lowestOf (z .layout) zone in
@@ -231,22 +222,22 @@ mode-stage {z} e zone mono v h some hv s =
     let r = e .receiver in
     let same : r .layout ≡ z .layout = ap (λ y. y .layout) (s .zones) in
     let b = withReader e (readerAt (statusOf 0xB k) 0x80) in
-    let acts : heardOf r NoEvent 0xB k (modeController mono) v .receiver ≡ withMono r zone mono =
-    subst (λ l. heardOf r NoEvent 0xB (lowestOf l zone) (modeController mono) v .receiver ≡ withMono r zone mono) same
+    let moved = heardOf r NoEvent 0xB k (modeController mono) v .receiver in
+    let acts : zonesOf moved ≡ withMono (zonesOf r) zone mono =
+    subst (λ l. zonesOf (heardOf r NoEvent 0xB (lowestOf l zone) (modeController mono) v .receiver) ≡ withMono (zonesOf r) zone mono) same
     (mode-acts r zone mono v (subst (λ l. legal l ≡ true) (sym same) h) (subst (λ l. 0 < membersOf l zone) (sym same) some)) in
-    stage-at e (told-all e (controlWord k (modeController mono) v ∷ [])) k (readerAt (statusOf 0xB k) 0x80) (parameterAt e k) (withMono r zone mono) s
+    stage-at e (told-all e (controlWord k (modeController mono) v ∷ [])) k (readerAt (statusOf 0xB k) 0x80) (parameterAt e k) moved s
     (heard-formed e (bytes (controlWord k (modeController mono) v ∷ [])) (s .formed))
     (control-all e k (modeController mono) v hk (mode-lt mono) hv
-    ∙ ap (λ x. withReceiver (withParameter b k (x .state)) (heardOf r (x .event) 0xB k (modeController mono) v .receiver)) (stays (parameterAt e k) mono v)
-    ∙ ap (λ x. withReceiver (withParameter b k (parameterAt e k)) x) acts)
+    ∙ ap (λ x. withReceiver (withParameter b k (x .state)) (heardOf r (x .event) 0xB k (modeController mono) v .receiver)) (stays (parameterAt e k) mono v))
     (s .cleared k hk)
-    (mono-zones r zone mono ∙ ap (λ y. withMono y zone mono) (s .zones))
+    (acts ∙ ap (λ y. withMono y zone mono) (s .zones))
 
 -- D. the mode of a zone, if it has members
-abbrev pub modedFor : Settings → MpeZone → MpeReceiver → MpeReceiver
+abbrev pub modedFor : Settings → MpeZone → Zones → Zones
 modedFor s zone z = if eqb (membersIn s zone) 0 then z else withMono z zone (isMono (zoneOf s zone))
 
-pub modes-stage : {z : MpeReceiver} (s : Settings) (zone : MpeZone) (e : End) → allowed s ≡ true → z .layout ≡ s .layout → Stage z e
+pub modes-stage : {z : Zones} (s : Settings) (zone : MpeZone) (e : End) → allowed s ≡ true → z .layout ≡ s .layout → Stage z e
     → Stage (modedFor s zone z) (told-all e (modes s zone))
 unfolding modes bytes heard
 modes-stage {z} s zone e h same st =

@@ -16,7 +16,8 @@ use Rattle.ump.proofs.Cases.{by-test}
 use Rattle.parameters.specs.declared.ParameterState.{ParameterState}
 use Rattle.parameters.specs.State.{number, nullNumber, withRpn, numberStored}
 use Rattle.mpe_receiver.specs.declared.MpeReceiver.{MpeReceiver}
-use Rattle.mpe_receiver.specs.State.{withBends, withPressures, withBrightnesses}
+use Rattle.mpe_zones.specs.declared.Zones.{Zones}
+use Rattle.mpe_receiver.specs.State.{withBends, withPressures, withBrightnesses, zonesOf}
 use Rattle.mpe_receiver.specs.Receive.{stored}
 use Rattle.mpe_sender.specs.Writers.{controlWord}
 use Rattle.byte_reader.specs.declared.Reader.{Reader}
@@ -31,7 +32,7 @@ use Rattle.restatement.specs.Messages.{deselectionOn, deselections, cont
 use Rattle.restatement.proofs.Allowed.{allowed-channel}
 use Rattle.restatement.proofs.Bytes.{bend-bytes, pressure-bytes}
 use Rattle.restatement.proofs.Told.{told-all, told-append, control-all, heard-formed, each-told}
-use Rattle.restatement.proofs.Stage.{Cleared, cleared-with, zonesOf, Stage, all-set, stage-at}
+use Rattle.restatement.proofs.Stage.{Cleared, cleared-with, Stage, all-set, stage-at}
 
 -- both numbers null, the registered kind last, and the switches as new
 abbrev pub settled : ParameterState
@@ -74,11 +75,11 @@ module _ (e : End) (k : ℕ) (hk : k < 16) (sized : length (e .parameters) ≡ 1
       ∙ second
 
 -- the channels below n are settled
-pub record Settling (z : MpeReceiver) (n : ℕ) (e : End) : Type 0 where
+pub record Settling (z : Zones) (n : ℕ) (e : End) : Type 0 where
   pub stage : Stage z e
   pub settled-below : (k : ℕ) → k < n → parameterAt e k ≡ settled
 
-settle-more : (z : MpeReceiver) (n : ℕ) (e : End) → n < 16 → Settling z n e → Settling z (suc n) (told-all e (deselectionOn n))
+settle-more : (z : Zones) (n : ℕ) (e : End) → n < 16 → Settling z n e → Settling z (suc n) (told-all e (deselectionOn n))
 settle-more z n e hn s =
     let st = s .stage in
     let c = st .cleared n hn in
@@ -92,7 +93,7 @@ settle-more z n e hn s =
           (λ ne. s .settled-below k (omega arith)));
     }
 
-pub settled-stage : (z : MpeReceiver) (e : End) → Stage z e → Settling z 16 (told-all e deselections)
+pub settled-stage : (z : Zones) (e : End) → Stage z e → Settling z 16 (told-all e deselections)
 settled-stage z e s =
     each-told (Settling z) deselectionOn (settle-more z) 16 e (omega arith)
     (record { stage = s; settled-below = λ k h. absurd (not-suc-le-zero h) })
@@ -168,14 +169,14 @@ module _ (s : Settings) (h : allowed s ≡ true) where
       ∙ pressure-told _ k (pressureOf s k) hk (omega (arith, limits .1))
 
   -- the channels below n show the settings
-  pub record Controlled (z : MpeReceiver) (n : ℕ) (e : End) : Type 0 where
+  pub record Controlled (z : Zones) (n : ℕ) (e : End) : Type 0 where
     pub settling : Settling z 16 e
     pub reader-at : (m : ℕ) → n ≡ suc m → e .reader ≡ readerAt (statusOf 0xD m) 0x80
     pub bends-below : (k : ℕ) → k < n → getD (e .receiver .«pitch_bend») k 0 ≡ bendOf s k
     pub brightnesses-below : (k : ℕ) → k < n → getD (e .receiver .brightness) k 0 ≡ brightnessOf s k
     pub pressures-below : (k : ℕ) → k < n → getD (e .receiver .pressure) k 0 ≡ pressureOf s k
 
-  control-more : (z : MpeReceiver) (n : ℕ) (e : End) → n < 16 → Controlled z n e → Controlled z (suc n) (told-all e (controlsOn s n))
+  control-more : (z : Zones) (n : ℕ) (e : End) → n < 16 → Controlled z n e → Controlled z (suc n) (told-all e (controlsOn s n))
   control-more z n e hn c =
       let st = c .settling .stage in
       let f = st .formed .receiver-formed in
@@ -201,7 +202,7 @@ module _ (s : Settings) (h : allowed s ≡ true) where
             (one-more (e .receiver .pressure) (pressureOf s) n (omega (arith, f .pressures)) (c .pressures-below) k hk);
       }
 
-  pub controlled-stage : (z : MpeReceiver) (e : End) → Settling z 16 e → Controlled z 16 (told-all e (controls s))
+  pub controlled-stage : (z : Zones) (e : End) → Settling z 16 e → Controlled z 16 (told-all e (controls s))
   controlled-stage z e c =
       each-told (Controlled z) (controlsOn s) (control-more z) 16 e (omega arith)
       (record {

@@ -3,7 +3,7 @@
 use Prim.Native.Nat.{ℕ, _<_}
 use mathlib.Core.Path.{_≡_, ap, sym, _∙_, subst}
 use mathlib.Core.Bool.{Bool, true, false}
-use mathlib.Core.List.{List, []}
+use mathlib.Core.List.{List}
 use lib.Dec.{eqb}
 use lib.ListN.{getD, set, length}
 use lib.Seq.{getD-set-same, getD-set-other}
@@ -14,7 +14,9 @@ use Rattle.parameters.specs.declared.ParameterState.{ParameterState}
 use Rattle.parameters.specs.declared.Number.{Number}
 use Rattle.parameters.specs.State.{nullNumber, withRpn}
 use Rattle.mpe_layout.specs.declared.MpeLayout.{MpeLayout}
+use Rattle.mpe_zones.specs.declared.Zones.{Zones}
 use Rattle.mpe_receiver.specs.declared.MpeReceiver.{MpeReceiver}
+use Rattle.mpe_receiver.specs.State.{zonesOf}
 use Rattle.byte_reader.specs.declared.Reader.{Reader}
 use Rattle.receiving_end.specs.declared.end.End.{End}
 use Rattle.receiving_end.specs.End.{blank, withReader, withReceiver, withParameter, parameterAt}
@@ -30,23 +32,10 @@ pub record Cleared (p : ParameterState) : Type 0 where
 pub cleared-with : (p : ParameterState) (n : Number) → Cleared p → Cleared (withRpn p n)
 cleared-with p n c = record { nrpn-null = c .nrpn-null; rpn-on = c .rpn-on; nrpn-off = c .nrpn-off }
 
--- layout, modes and sensitivities of a receiver, without the controls of the channels
-abbrev pub zonesAt : MpeLayout → Bool → Bool → List ℕ → MpeReceiver
-zonesAt l lower upper s =
-    record {
-      layout = l;
-      «lower_mono» = lower;
-      «upper_mono» = upper;
-      sensitivity = s;
-      «pitch_bend» = [];
-      pressure = [];
-      brightness = [];
-    }
+abbrev pub zonesAt : MpeLayout → Bool → Bool → List ℕ → Zones
+zonesAt l lower upper s = record { layout = l; «lower_mono» = lower; «upper_mono» = upper; sensitivity = s }
 
-abbrev pub zonesOf : MpeReceiver → MpeReceiver
-zonesOf r = zonesAt (r .layout) (r .«lower_mono») (r .«upper_mono») (r .sensitivity)
-
-pub record Stage (z : MpeReceiver) (e : End) : Type 0 where
+pub record Stage (z : Zones) (e : End) : Type 0 where
   pub formed : EndFormed e
   pub cleared : (k : ℕ) → k < 16 → Cleared (parameterAt e k)
   pub zones : zonesOf (e .receiver) ≡ z
@@ -64,7 +53,7 @@ all-set P l k q sized h j hj before =
     subst P (sym (getD-set-other l k j q blank n)) (before n))
 
 -- a message that leaves a channel's parameters cleared
-pub stage-at : {z y : MpeReceiver} (e x : End) (k : ℕ) (rd : Reader) (q : ParameterState) (r : MpeReceiver) → Stage z e → EndFormed x
+pub stage-at : {z y : Zones} (e x : End) (k : ℕ) (rd : Reader) (q : ParameterState) (r : MpeReceiver) → Stage z e → EndFormed x
     → x ≡ withReceiver (withParameter (withReader e rd) k q) r → Cleared q → zonesOf r ≡ y → Stage y x
 stage-at e x k rd q r s f p c h =
     record {

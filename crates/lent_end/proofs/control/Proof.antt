@@ -9,9 +9,9 @@ use Rattle.ump.specs.Word.{opcodeOf, channelOf, firstOf, secondOf}
 use Rattle.parameters.specs.declared.Heard.{Heard}
 use Rattle.parameters.specs.declared.ParameterState.{ParameterState}
 use Rattle.parameters.specs.State as parameter
-use Rattle.mpe_receiver.specs.declared.Told.{Told}
-use Rattle.mpe_receiver.specs.Receive.{saidBy}
-use Rattle.mpe_receiver.specs.Parts.{toldAs, settlesBy}
+use Rattle.mpe_zones.specs.declared.Told.{Told}
+use Rattle.mpe_zones.specs.Told.{saidBy, toldAs}
+use Rattle.mpe_receiver.specs.Receive.{settlesBy}
 use Rattle.lent_end.specs.declared.Placed.{Placed}
 use Rattle.receiving_end.specs.declared.end.Reply.the-variants.{Message}
 use Rattle.lent_end.specs.Lent.{controlledOf}

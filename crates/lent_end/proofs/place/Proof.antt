@@ -6,11 +6,11 @@ use mathlib.Core.Path.{_≡_}
 use Rattle.ump.specs.Word.{opcodeOf, channelOf, firstOf}
 use Rattle.mpe_layout.specs.declared.MpeRole.{MpeRole}
 use Rattle.mpe_receiver.specs.declared.MpeReceiver.{MpeReceiver}
-use Rattle.mpe_receiver.specs.declared.MpeEvent.{MpeEvent}
-use Rattle.mpe_receiver.specs.declared.Zones.{Zones}
-use Rattle.mpe_receiver.specs.Zones.{roleHeld}
-use Rattle.mpe_receiver.specs.Receive.{byRole}
-use Rattle.mpe_receiver.specs.Parts.{zonesOf, newWith}
+use Rattle.mpe_zones.specs.declared.MpeEvent.{MpeEvent}
+use Rattle.mpe_zones.specs.declared.Zones.{Zones}
+use Rattle.mpe_zones.specs.Zones.{roleHeld}
+use Rattle.mpe_zones.specs.Told.{eventOf}
+use Rattle.mpe_receiver.specs.State.{zonesOf}
 use Rattle.receiving_end.specs.declared.end.Reply.the-variants.{Message}
 use Rattle.lent_end.specs.Lent.{placedOf}
 use Rattle.lent_end.proofs.place.Statement.{statement}
@@ -45,7 +45,7 @@ made : (r : MpeReceiver) (w : ℕ) {z : Zones} {ro : MpeRole} {event : MpeEvent}
     → o ≡ opcodeOf w
     → k ≡ channelOf w
     → f ≡ firstOf w
-    → event ≡ byRole (newWith z) k ro o f .event
+    → event ≡ eventOf z k ro o f
     → record { zones = z; role = ro; event = event; reply = Message w event } ≡ placedOf r w
 made r w pz pj pr po pk pf pe = cc
 

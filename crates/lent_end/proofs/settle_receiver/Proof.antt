@@ -44,11 +44,11 @@ use denote.Triple.Table.{entered, cited}
 use denote.Triple.Walked.{says, Stays, gave-ref, stay-none, walkOf, AllGo, goes-none, goes-gave-ref, Walks, ends-at, walked, walk-meets}
 use denote.Exit.{yes}
 use Rattle.lent_end.specs.Lent.{settledEnd}
-use Rattle.mpe_receiver.specs.Parts.{settled}
+use Rattle.mpe_receiver.specs.Receive.{settled}
 use Rattle.receiving_end.specs.declared.end.End.{End}
 use Rattle.receiving_end.specs.declared.end.Reply.{Reply}
-use Rattle.mpe_receiver.specs.declared.Zones.{Zones}
-use Rattle.mpe_receiver.specs.declared.MpeEvent.{MpeEvent}
+use Rattle.mpe_zones.specs.declared.Zones.{Zones}
+use Rattle.mpe_zones.specs.declared.MpeEvent.{MpeEvent}
 use Rattle.mpe_receiver.specs.declared.MpeReceiver.{MpeReceiver}
 use Rattle.lent_end.proofs.Item.{of-raw}
 use Rattle.lent_end.proofs.Walk.{Typed, member, Gives, since, told}
@@ -58,10 +58,10 @@ use Rattle.receiving_end.proofs.end.End as T
 use Rattle.receiving_end.proofs.end.End.Laws as T′
 use Rattle.receiving_end.proofs.end.Reply as R
 use Rattle.receiving_end.proofs.end.Reply.Laws as R′
-use Rattle.mpe_receiver.proofs.Zones as Zo
-use Rattle.mpe_receiver.proofs.Zones.Laws as Zo′
-use Rattle.mpe_receiver.proofs.MpeEvent as Ev
-use Rattle.mpe_receiver.proofs.MpeEvent.Laws as Ev′
+use Rattle.mpe_zones.proofs.Zones as Zo
+use Rattle.mpe_zones.proofs.Zones.Laws as Zo′
+use Rattle.mpe_zones.proofs.MpeEvent as Ev
+use Rattle.mpe_zones.proofs.MpeEvent.Laws as Ev′
 use Rattle.mpe_receiver.proofs.MpeReceiver as Rv
 use Rattle.mpe_receiver.proofs.MpeReceiver.Laws as Rv′
 use Rattle.mpe_receiver.proofs.MpeReceiver.settle as settle

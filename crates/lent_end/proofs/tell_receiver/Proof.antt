@@ -51,8 +51,8 @@ use Rattle.ump.specs.Choice.{if_then_else_}
 use Rattle.receiving_end.specs.declared.end.End.{End}
 use Rattle.receiving_end.specs.declared.end.Reply.{Reply}
 use Rattle.lent_end.specs.declared.Controlled.{Controlled}
-use Rattle.mpe_receiver.specs.declared.Zones.{Zones}
-use Rattle.mpe_receiver.specs.declared.MpeEvent.{MpeEvent}
+use Rattle.mpe_zones.specs.declared.Zones.{Zones}
+use Rattle.mpe_zones.specs.declared.MpeEvent.{MpeEvent}
 use Rattle.lent_end.proofs.Item.{item, count-is, put-is, machines, set-machines, putItems, byte-here, same, taken, untaken}
 use Rattle.lent_end.proofs.Walk.{Typed, member, Passes, since}
 use Rattle.lent_end.proofs.Lending as L
@@ -63,10 +63,10 @@ use Rattle.receiving_end.proofs.end.Reply as R
 use Rattle.receiving_end.proofs.end.Reply.Laws as R′
 use Rattle.lent_end.proofs.Controlled as Ct
 use Rattle.lent_end.proofs.Controlled.Laws as Ct′
-use Rattle.mpe_receiver.proofs.Zones as Zo
-use Rattle.mpe_receiver.proofs.Zones.Laws as Zo′
-use Rattle.mpe_receiver.proofs.MpeEvent as Ev
-use Rattle.mpe_receiver.proofs.MpeEvent.Laws as Ev′
+use Rattle.mpe_zones.proofs.Zones as Zo
+use Rattle.mpe_zones.proofs.Zones.Laws as Zo′
+use Rattle.mpe_zones.proofs.MpeEvent as Ev
+use Rattle.mpe_zones.proofs.MpeEvent.Laws as Ev′
 use Rattle.parameters.proofs.ParameterState as Ps
 use Rattle.parameters.proofs.ParameterState.Laws as Ps′
 use Rattle.mpe_receiver.proofs.MpeReceiver as Rv

@@ -10,7 +10,7 @@ use Rattle.mpe_receiver.proofs.settles.Statement.{statement}
 use Rattle.mpe_receiver.proofs.settles.Tie as tie
 use Rattle.mpe_receiver.proofs.settles.Reads as reads
 use Rattle.mpe_receiver.proofs.settles.Lts as lts
-use Rattle.mpe_receiver.proofs.changes.Reads as changes-reads
+use Rattle.mpe_zones.proofs.changes.Reads as changes-reads
 use Rattle.ump.proofs.channel_voice1.first_data.Reads as first-data-reads
 
 first-data-requires : tie.Need-first-data-requires

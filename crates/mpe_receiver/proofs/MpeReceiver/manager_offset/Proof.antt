@@ -3,7 +3,7 @@
 use borrow.Author.Needs.{needs}
 use Rattle.mpe_receiver.proofs.MpeReceiver.manager_offset.Statement.{statement}
 use Rattle.mpe_receiver.proofs.MpeReceiver.manager_offset.Tie as tie
-use mathlib.Core.Path.{_≡_}
+use mathlib.Core.Path.{_≡_, ap, _∙_}
 use mathlib.Core.Bool.{true}
 use Rattle.mpe_layout.specs.Layout.{managerOf}
 use Rattle.mpe_pitch.specs.Pitch.{pitchOffset}
@@ -27,7 +27,9 @@ unfolding managerOffset
 returns c =
     let a = c .before .before .before .before .args in
     let r = c .pitch-offset .result in
-    let e : r ≡ pitchOffset (bendAt (a .self) (managerOf (a .zone))) (sensitivityOf (a .self) (a .zone) true) = cc (c .pitch-offset .ensures .0) in
+    let e : r ≡ pitchOffset (bendAt (a .self) (managerOf (a .zone))) (sensitivityOf (a .self) (a .zone) true) =
+    c .pitch-offset .ensures .0
+    ∙ (λ i. pitchOffset ((c .before .before .pitch-bend .ensures ∙ ap (bendAt (a .self)) (c .before .before .before .manager .ensures)) i) (c .before .sensitivity .ensures i)) in
     offset-back r (bendAt (a .self) (managerOf (a .zone))) (sensitivityOf (a .self) (a .zone) true) e
 
 pub manager-offset-spec : {M : Type 1} → statement M

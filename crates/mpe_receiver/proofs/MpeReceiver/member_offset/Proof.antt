@@ -3,7 +3,7 @@
 use borrow.Author.Needs.{needs}
 use Rattle.mpe_receiver.proofs.MpeReceiver.member_offset.Statement.{statement}
 use Rattle.mpe_receiver.proofs.MpeReceiver.member_offset.Tie as tie
-use mathlib.Core.Path.{_≡_}
+use mathlib.Core.Path.{_≡_, _∙_}
 use mathlib.Core.Bool.{false}
 use mir.Syntax.{w32}
 use mir.ValLaws.{toZ-ofZ}
@@ -29,7 +29,8 @@ add-result c =
     let v = bendAt (a .self) (a .channel) in
     let s = sensitivityOf (a .self) (a .zone) false in
     let m = manager-back (c .before .before .before .manager-offset .result) (a .self) (a .zone) (c .before .before .before .manager-offset .ensures) in
-    let e : c .pitch-offset .result ≡ pitchOffset v s = cc (c .pitch-offset .ensures .0) in
+    let e : c .pitch-offset .result ≡ pitchOffset v s =
+    c .pitch-offset .ensures .0 ∙ (λ i. pitchOffset (c .before .before .pitch-bend .ensures i) (c .before .sensitivity .ensures i)) in
     let k = offset-back (c .pitch-offset .result) v s e in
     let f = member-fits (a .self) (a .zone) (a .channel) in
     rw (m, k) f
@@ -41,7 +42,8 @@ returns c =
     let v = bendAt (a .self) (a .channel) in
     let s = sensitivityOf (a .self) (a .zone) false in
     let m = manager-back (c .before .before .before .manager-offset .result) (a .self) (a .zone) (c .before .before .before .manager-offset .ensures) in
-    let e : c .pitch-offset .result ≡ pitchOffset v s = cc (c .pitch-offset .ensures .0) in
+    let e : c .pitch-offset .result ≡ pitchOffset v s =
+    c .pitch-offset .ensures .0 ∙ (λ i. pitchOffset (c .before .before .pitch-bend .ensures i) (c .before .sensitivity .ensures i)) in
     let k = offset-back (c .pitch-offset .result) v s e in
     let f = member-fits (a .self) (a .zone) (a .channel) in
     rw (m, k) (toZ-ofZ w32 _ f)

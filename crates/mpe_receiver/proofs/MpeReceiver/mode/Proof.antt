@@ -1,10 +1,9 @@
 -- `mpe_receiver::MpeReceiver::mode` meets its contract.
 -- Assumes nothing.
+use mathlib.Core.Path.{ap, sym, _∙_}
 use borrow.Author.Needs.{needs}
-use Rattle.mpe_receiver.specs.State.{monoOf}
-use mathlib.Core.Bool.{true, false}
-use mathlib.Core.Path.{_≡_}
-use Rattle.mpe_receiver.proofs.Parts.{mono-zones}
+use Rattle.ump.specs.Choice.{if_then_else_}
+use Rattle.mpe_zones.specs.Zones.{monoOf}
 use Rattle.mpe_receiver.proofs.MpeReceiver.mode.Statement.{statement}
 use Rattle.mpe_receiver.proofs.MpeReceiver.mode.Tie as tie
 
@@ -16,15 +15,13 @@ is-mono-requires c κs = search needs
 
 returns : tie.Need-returns
 returns c =
-    let a = c .before .before .before .args in
-    let m : monoOf (a .self) (a .zone) ≡ true = cc (mono-zones (a .self) (a .zone)) in
-    rw m
+    let mono = c .before .is-mono .ensures ∙ ap (λ z. monoOf z (c .before .before .before .args .zone)) (c .before .before .zones .ensures) in
+    ap (λ m. if m then 4 else 3) (sym (c .if1 .taken) ∙ mono)
 
 returns-2 : tie.Need-returns-2
 returns-2 c =
-    let a = c .before .before .before .args in
-    let m : monoOf (a .self) (a .zone) ≡ false = cc (mono-zones (a .self) (a .zone)) in
-    rw m
+    let mono = c .before .is-mono .ensures ∙ ap (λ z. monoOf z (c .before .before .before .args .zone)) (c .before .before .zones .ensures) in
+    ap (λ m. if m then 4 else 3) (sym (c .if1 .left) ∙ mono)
 
 pub mode-spec : {M : Type 1} → statement M
 mode-spec = tie.close (tie.spec zones-requires is-mono-requires returns returns-2)

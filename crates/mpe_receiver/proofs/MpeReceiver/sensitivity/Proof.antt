@@ -1,18 +1,21 @@
 -- `mpe_receiver::MpeReceiver::sensitivity` meets its contract.
 -- Assumes nothing.
+use mathlib.Core.Path.{ap, _∙_}
 use borrow.Author.Needs.{needs}
+use Rattle.mpe_zones.specs.Zones.{sensitivityOf}
 use Rattle.mpe_receiver.proofs.MpeReceiver.sensitivity.Statement.{statement}
 use Rattle.mpe_receiver.proofs.MpeReceiver.sensitivity.Tie as tie
-use Rattle.mpe_receiver.proofs.Slots.{slot-fits}
 
-slot-requires : tie.Need-slot-requires
-slot-requires c κs = search needs
+zones-requires : tie.Need-zones-requires
+zones-requires c κs = search needs
 
-read-sensitivity-requires : tie.Need-read-sensitivity-requires
-read-sensitivity-requires c κs = let l = slot-fits (c .before .before .args .zone) (c .before .before .args .manager) in rw (c .slot .ensures) l
+sensitivity-requires : tie.Need-sensitivity-requires
+sensitivity-requires c κs = search needs
 
 returns : tie.Need-returns
-returns c = cc
+returns c =
+    let a = c .before .before .args in
+    c .sensitivity .ensures ∙ ap (λ z. sensitivityOf z (a .zone) (a .manager)) (c .before .zones .ensures)
 
 pub sensitivity-spec : {M : Type 1} → statement M
-sensitivity-spec = tie.close (tie.spec slot-requires read-sensitivity-requires returns)
+sensitivity-spec = tie.close (tie.spec zones-requires sensitivity-requires returns)

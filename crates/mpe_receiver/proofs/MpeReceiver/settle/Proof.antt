@@ -2,9 +2,9 @@
 -- Assumes nothing.
 use borrow.Author.Needs.{needs}
 use mathlib.Core.Path.{ap, _∙_}
-use Rattle.mpe_receiver.specs.Zones.{restUpto}
-use Rattle.mpe_receiver.specs.Receive.{stored}
-use Rattle.mpe_receiver.specs.Parts.{withZones, resetIn}
+use Rattle.mpe_zones.specs.Told.{resetIn}
+use Rattle.mpe_receiver.specs.State.{withZones}
+use Rattle.mpe_receiver.specs.Receive.{stored, restUpto}
 use Rattle.mpe_receiver.proofs.MpeReceiver.settle.Statement.{statement}
 use Rattle.mpe_receiver.proofs.MpeReceiver.settle.Tie as tie
 use Rattle.mpe_receiver.proofs.MpeReceiver.settle.Reads as reads

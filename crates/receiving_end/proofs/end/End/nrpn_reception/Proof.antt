@@ -1,5 +1,6 @@
 -- `receiving_end::end::End::nrpn_reception` meets its contract.
 -- Assumes nothing.
+use mathlib.Core.Path.{ap, _∙_}
 use borrow.Author.Needs.{needs}
 use Rattle.receiving_end.proofs.end.End.nrpn_reception.Statement.{statement}
 use Rattle.receiving_end.proofs.end.End.nrpn_reception.Tie as tie
@@ -14,7 +15,7 @@ nrpn-reception-requires : tie.Need-nrpn-reception-requires
 nrpn-reception-requires c κs = search needs
 
 returns : tie.Need-returns
-returns c = cc
+returns c = c .nrpn-reception .ensures ∙ ap (λ p. p .«nrpn_on») (c .before .parameter .ensures)
 
 pub nrpn-reception-spec : {M : Type 1} → statement M
 nrpn-reception-spec =

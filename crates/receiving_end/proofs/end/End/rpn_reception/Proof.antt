@@ -1,5 +1,6 @@
 -- `receiving_end::end::End::rpn_reception` meets its contract.
 -- Assumes nothing.
+use mathlib.Core.Path.{ap, _∙_}
 use borrow.Author.Needs.{needs}
 use Rattle.receiving_end.proofs.end.End.rpn_reception.Statement.{statement}
 use Rattle.receiving_end.proofs.end.End.rpn_reception.Tie as tie
@@ -14,7 +15,7 @@ rpn-reception-requires : tie.Need-rpn-reception-requires
 rpn-reception-requires c κs = search needs
 
 returns : tie.Need-returns
-returns c = cc
+returns c = c .rpn-reception .ensures ∙ ap (λ p. p .«rpn_on») (c .before .parameter .ensures)
 
 pub rpn-reception-spec : {M : Type 1} → statement M
 rpn-reception-spec =

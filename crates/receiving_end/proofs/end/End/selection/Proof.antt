@@ -1,6 +1,8 @@
 -- `receiving_end::end::End::selection` meets its contract.
 -- Assumes nothing.
+use mathlib.Core.Path.{ap, _∙_}
 use borrow.Author.Needs.{needs}
+use Rattle.parameters.specs.State.{selectionOf}
 use Rattle.receiving_end.proofs.end.End.selection.Statement.{statement}
 use Rattle.receiving_end.proofs.end.End.selection.Tie as tie
 
@@ -14,7 +16,7 @@ selection-requires : tie.Need-selection-requires
 selection-requires c κs = search needs
 
 returns : tie.Need-returns
-returns c = cc
+returns c = c .selection .ensures ∙ ap selectionOf (c .before .parameter .ensures)
 
 pub selection-spec : {M : Type 1} → statement M
 selection-spec = tie.close (tie.spec cast-parameter parameter-requires selection-requires returns)

@@ -1,6 +1,10 @@
 -- `receiving_end::end::End::set_nrpn_reception` meets its contract.
 -- Assumes nothing.
+use mathlib.Core.Path.{ap, _∙_}
 use borrow.Author.Needs.{needs}
+use Rattle.ump.specs.Packet.{packetValue}
+use Rattle.parameters.specs.State.{nrpnSwitched}
+use Rattle.receiving_end.specs.End.{withParameter}
 use Rattle.receiving_end.proofs.end.End.set_nrpn_reception.Statement.{statement}
 use Rattle.receiving_end.proofs.end.End.set_nrpn_reception.Tie as tie
 
@@ -17,7 +21,10 @@ with-parameter-requires : tie.Need-with-parameter-requires
 with-parameter-requires c κs = search needs
 
 returns : tie.Need-returns
-returns c = cc
+returns c =
+    let a = c .before .before .before .args in
+    c .with-parameter .ensures
+    ∙ ap (withParameter (a .self) (packetValue (a .channel))) (c .before .set-nrpn-reception .ensures ∙ ap (λ p. nrpnSwitched p (a .on)) (c .before .before .parameter .ensures))
 
 pub set-nrpn-reception-spec : {M : Type 1} → statement M
 set-nrpn-reception-spec =

@@ -1,6 +1,10 @@
 -- `receiving_end::end::End::set_rpn_reception` meets its contract.
 -- Assumes nothing.
+use mathlib.Core.Path.{ap, _∙_}
 use borrow.Author.Needs.{needs}
+use Rattle.ump.specs.Packet.{packetValue}
+use Rattle.parameters.specs.State.{rpnSwitched}
+use Rattle.receiving_end.specs.End.{withParameter}
 use Rattle.receiving_end.proofs.end.End.set_rpn_reception.Statement.{statement}
 use Rattle.receiving_end.proofs.end.End.set_rpn_reception.Tie as tie
 
@@ -17,7 +21,10 @@ with-parameter-requires : tie.Need-with-parameter-requires
 with-parameter-requires c κs = search needs
 
 returns : tie.Need-returns
-returns c = cc
+returns c =
+    let a = c .before .before .before .args in
+    c .with-parameter .ensures
+    ∙ ap (withParameter (a .self) (packetValue (a .channel))) (c .before .set-rpn-reception .ensures ∙ ap (λ p. rpnSwitched p (a .on)) (c .before .before .parameter .ensures))
 
 pub set-rpn-reception-spec : {M : Type 1} → statement M
 set-rpn-reception-spec =

@@ -1,0 +1,63 @@
+-- An activated zone reads its defaults, and the other zone as before.
+-- Assumes nothing.
+use Prim.Native.Nat.{ℕ}
+use mathlib.Core.Path.{_≡_, refl, _∙_}
+use mathlib.Core.Bool.{Bool, true, false}
+use mathlib.Core.List.{List}
+use native.Mathlib.Omega.{arith}
+use lib.ListN.{length-set}
+use Rattle.mpe_layout.specs.declared.MpeZone.{MpeZone}
+use Rattle.mpe_layout.specs.declared.MpeZone.the-variants.{Lower, Upper}
+use Rattle.mpe_layout.specs.Layout.{otherZone}
+use Rattle.mpe_pitch.specs.Pitch.{managerDefault, memberDefault}
+use Rattle.mpe_zones.specs.declared.Zones.{Zones}
+use Rattle.mpe_zones.specs.Zones.{withSensitivities, withMono, monoOf, slotOf, sensitivityPut, sensitivityAt, sensitivityOf, activated}
+use Rattle.mpe_zones.specs.WellFormed.{WellFormed}
+use Rattle.mpe_zones.proofs.Slots.{slot-fits, slot-even, halves-apart, zones-apart, put-same, put-other}
+
+-- a mode is set beside the sensitivities
+mono-beside : (z : Zones) (zone : MpeZone) (m : Bool) → withMono z zone m .sensitivity ≡ z .sensitivity
+mono-beside z Lower m = refl
+mono-beside z Upper m = refl
+
+module _ (z : Zones) (zone : MpeZone) where
+  -- the sensitivities once the manager's is put
+  abbrev managed : List ℕ
+  managed = sensitivityPut (z .sensitivity) (slotOf zone true) (managerDefault .semitones) (managerDefault .cents)
+
+  -- the members' is put beside every other
+  beside : (y : MpeZone) (m : Bool) → (slotOf y m ≡ slotOf zone false → ⊥) → sensitivityOf (activated z zone) y m ≡ sensitivityAt managed (slotOf y m)
+  unfolding activated
+  beside y m ne =
+      rw mono-beside (put-other managed (slotOf zone false) (slotOf y m) _ _ (slot-even zone false) (slot-even y m) ne)
+
+  -- nothing changes but the zone's mode and sensitivities
+  pub activated-only : activated z zone ≡ withMono (withSensitivities z (activated z zone .sensitivity)) zone false
+  unfolding activated
+  activated-only = rw mono-beside
+
+  pub activated-manager : WellFormed z → sensitivityOf (activated z zone) zone true ≡ managerDefault
+  activated-manager w =
+      beside zone true (halves-apart zone)
+      ∙ put-same (z .sensitivity) (slotOf zone true) _ _ (omega (arith, slot-fits zone true, w .sensitivities))
+
+  pub activated-members : WellFormed z → sensitivityOf (activated z zone) zone false ≡ memberDefault
+  unfolding activated
+  activated-members w =
+      rw mono-beside
+      (put-same managed (slotOf zone false) _ _ (simp length-set (omega (arith, slot-fits zone false, w .sensitivities))))
+
+  pub activated-other : (manager : Bool) → sensitivityOf (activated z zone) (otherZone zone) manager ≡ sensitivityOf z (otherZone zone) manager
+  activated-other manager =
+      beside (otherZone zone) manager (zones-apart zone manager false)
+      ∙ put-other (z .sensitivity) (slotOf zone true) (slotOf (otherZone zone) manager) _ _ (slot-even zone true) (slot-even (otherZone zone) manager) (zones-apart zone manager true)
+
+pub activated-mode : (z : Zones) (zone : MpeZone) → monoOf (activated z zone) zone ≡ false
+unfolding activated
+activated-mode z Lower = refl
+activated-mode z Upper = refl
+
+pub activated-other-mode : (z : Zones) (zone : MpeZone) → monoOf (activated z zone) (otherZone zone) ≡ monoOf z (otherZone zone)
+unfolding activated
+activated-other-mode z Lower = refl
+activated-other-mode z Upper = refl

@@ -1,0 +1,189 @@
+-- What a message leaves of the zones: RPN 0 changes one sensitivity, a message on a member at most its zone's mode, and an event that tells of no change tells the truth.
+-- Assumes nothing.
+use Prim.Native.Nat.{ℕ, _+_, _*_, _/_, _%_}
+use mathlib.Core.Path.{_≡_, refl, ap, sym, _∙_}
+use mathlib.Core.Bool.{Bool, true, false, true≢false}
+use native.Mathlib.Omega.{arith}
+use lib.Dec.{ltb, eqb}
+use borrow.Author.Tests.{eqb-true, ne-eqb}
+use Rattle.ump.specs.Choice.{if_then_else_}
+use Rattle.ump.proofs.Cases.{by-test, of-both}
+use Rattle.parameters.specs.declared.ParameterChange.{ParameterChange}
+use Rattle.parameters.specs.declared.ParameterChange.the-variants.{DataEntryMsb, DataEntryLsb, Increment, Decrement}
+use Rattle.parameters.specs.declared.ParameterEvent.{ParameterEvent}
+use Rattle.parameters.specs.declared.MaybeEvent.{MaybeEvent}
+use Rattle.parameters.specs.declared.MaybeEvent.the-variants.{NoEvent}
+use Rattle.parameters.specs.Apply.{applied}
+use Rattle.mpe_layout.specs.declared.MpeZone.{MpeZone}
+use Rattle.mpe_layout.specs.declared.MpeZone.the-variants.{Lower, Upper}
+use Rattle.mpe_layout.specs.declared.MpeRole.{MpeRole}
+use Rattle.mpe_layout.specs.declared.MpeRole.the-variants as role
+use Rattle.mpe_zones.specs.declared.MpeEvent.{MpeEvent}
+use Rattle.mpe_zones.specs.declared.MpeEvent.the-variants.{NoZone, Zone, Layout, Sensitivity, Mode, Ignored}
+use Rattle.mpe_zones.specs.declared.Said.{Said}
+use Rattle.mpe_zones.specs.declared.Said.the-variants.{Nothing, Configuration, BendSensitivity}
+use Rattle.mpe_zones.specs.declared.Told.{Told}
+use Rattle.mpe_zones.specs.declared.Zones.{Zones}
+use Rattle.mpe_zones.specs.Zones.{withSensitivities, withMono, monoOf, slotOf, sensitivityOf, roleHeld}
+use Rattle.mpe_zones.specs.Told.{told, announced, configuredBy, configuredAs, announcing, sensitivityApplied, sensed, sensedEvent, inMode4, modeMessage, onMember, eventOf, modeSet, saidBy, toldAs, messageTold, resetIn, changesBy}
+use Rattle.mpe_zones.specs.WellFormed.{WellFormed}
+use Rattle.mpe_zones.specs.Claims.{monoAfter}
+use Rattle.mpe_zones.proofs.Slots.{slot-fits, slot-even, put-same, put-other}
+
+-- the role of a zone's manager or of its members
+abbrev pub roleFor : MpeZone → Bool → MpeRole
+roleFor zone true = role.Manager zone
+roleFor zone false = role.Member zone
+
+-- the zones after RPN 0
+abbrev pub rpnZero : Zones → MpeZone → Bool → ParameterEvent → Zones
+rpnZero z zone manager e = sensed z (roleFor zone manager) e .zones
+
+applied-to : (z : Zones) (zone : MpeZone) (manager : Bool) (e : ParameterEvent)
+    → rpnZero z zone manager e ≡ withSensitivities z (sensitivityApplied (z .sensitivity) (slotOf zone manager) e)
+applied-to z zone true e = refl
+applied-to z zone false e = refl
+
+-- it changes the sensitivities alone
+pub rpn-zero-only : (z : Zones) (zone : MpeZone) (manager : Bool) (e : ParameterEvent)
+    → rpnZero z zone manager e ≡ withSensitivities z (rpnZero z zone manager e .sensitivity)
+rpn-zero-only z zone manager e = refl
+
+-- of these the one that it names
+pub rpn-zero-other : (z : Zones) (zone : MpeZone) (manager : Bool) (e : ParameterEvent) (y : MpeZone) (m : Bool)
+    → (slotOf y m ≡ slotOf zone manager → ⊥) → sensitivityOf (rpnZero z zone manager e) y m ≡ sensitivityOf z y m
+rpn-zero-other z zone manager e y m ne =
+    ap (λ x. sensitivityOf x y m) (applied-to z zone manager e)
+    ∙ put-other (z .sensitivity) (slotOf zone manager) (slotOf y m) _ _ (slot-even zone manager) (slot-even y m) ne
+
+-- to the new value of RPN 0
+pub rpn-zero-same : (z : Zones) (zone : MpeZone) (manager : Bool) (e : ParameterEvent) (v : ℕ) → WellFormed z
+    → v ≡ applied e (sensitivityOf z zone manager .semitones * 128 + sensitivityOf z zone manager .cents)
+    → sensitivityOf (rpnZero z zone manager e) zone manager ≡ record { semitones = v / 128; cents = v % 128 }
+rpn-zero-same z zone manager e v w h =
+    ap (λ x. sensitivityOf x zone manager) (applied-to z zone manager e)
+    ∙ rw h (put-same (z .sensitivity) (slotOf zone manager) _ _ (omega (arith, slot-fits zone manager, w .sensitivities)))
+
+pub mono-same : (z : Zones) (zone : MpeZone) → withMono z zone (monoOf z zone) ≡ z
+mono-same z Lower = refl
+mono-same z Upper = refl
+
+-- a message on a member changes at most the zone's mode
+module _ (z : Zones) (zone : MpeZone) (mono lowest : Bool) where
+  by-mode : (a : ℕ) → modeSet z (inMode4 zone mono) a ≡ withMono z zone (monoOf z zone)
+  by-mode a = by-test mono (λ e. rw e (sym (mono-same z zone))) (λ e. rw e (sym (mono-same z zone)))
+
+  by-lowest : (a : ℕ) → modeSet z (modeMessage zone lowest) a ≡ withMono z zone (if lowest then eqb a 126 else monoOf z zone)
+  by-lowest a = by-test lowest (λ e. rw e) (λ e. rw e (sym (mono-same z zone)))
+
+  controlled : (a : ℕ) → modeSet z (onMember zone mono lowest 0xB a) a ≡ withMono z zone (monoAfter (monoOf z zone) lowest 0xB a)
+  unfolding onMember monoAfter
+  controlled a =
+      by-test (eqb a 0) (λ e. rw (eqb-true a 0 e) (by-mode 0))
+      (λ e. by-test (eqb a 32) (λ f. rw (eqb-true a 32 f) (by-mode 32))
+      (λ f. by-test (eqb a 126) (λ g. rw (eqb-true a 126 g) (by-lowest 126))
+      (λ g. by-test (eqb a 127) (λ h. rw (eqb-true a 127 h) (by-lowest 127))
+      (λ h. rw (e, f, g, h) (sym (mono-same z zone))))))
+
+  pub on-member-mode : (opcode a : ℕ) → modeSet z (onMember zone mono lowest opcode a) a ≡ withMono z zone (monoAfter (monoOf z zone) lowest opcode a)
+  unfolding onMember monoAfter
+  on-member-mode opcode a =
+      by-test (eqb opcode 0xA) (λ e. rw (eqb-true opcode 0xA e) (sym (mono-same z zone)))
+      (λ e. by-test (eqb opcode 0xC) (λ f. rw (eqb-true opcode 0xC f) (by-mode a))
+      (λ f. by-test (eqb opcode 0xB) (λ g. rw (eqb-true opcode 0xB g) (controlled a))
+      (λ g. rw (e, f, g) (sym (mono-same z zone)))))
+
+-- the events that tell of no change of the zones reset no channel
+pub none-reset : (e : MpeEvent) → changesBy e ≡ false → resetIn e ≡ 0
+none-reset NoZone f = refl
+none-reset (Zone y m) f = refl
+none-reset (Layout m) f = absurd (true≢false f)
+none-reset (Sensitivity y m) f = refl
+none-reset (Mode y) f = refl
+none-reset Ignored f = refl
+
+-- and the zones stay
+record Kept (z : Zones) (t : Told) : Type 0 where
+  kept : changesBy (t .event) ≡ false → t .zones ≡ z
+
+module _ (z : Zones) where
+  stays : (e : MpeEvent) → Kept z (told z e)
+  stays e = record { kept = λ f. refl }
+
+  changes : {t : Told} → changesBy (t .event) ≡ true → Kept z t
+  changes c = record { kept = λ f. absurd (true≢false (sym c ∙ f)) }
+
+  announced-kept : (zone : MpeZone) (members : ℕ) → Kept z (announced z zone members)
+  unfolding announced
+  announced-kept zone members = of-both (Kept z) (ltb 15 members) (stays Ignored) (changes refl)
+
+  change-kept : (zone : MpeZone) (change : ParameterChange) → Kept z (configuredBy z zone change)
+  change-kept zone (DataEntryMsb members) = announced-kept zone members
+  change-kept zone (DataEntryLsb d) = stays Ignored
+  change-kept zone Increment = stays Ignored
+  change-kept zone Decrement = stays Ignored
+
+  configured-kept : (ro : MpeRole) (change : ParameterChange) → Kept z (configuredAs z ro change)
+  configured-kept role.NoZone change = stays Ignored
+  configured-kept (role.Manager zone) change = change-kept zone change
+  configured-kept (role.Member zone) change = stays Ignored
+
+  sensed-kept : (ro : MpeRole) (e : ParameterEvent) → Kept z (sensed z ro e)
+  sensed-kept role.NoZone e = stays NoZone
+  sensed-kept (role.Manager zone) e = changes refl
+  sensed-kept (role.Member zone) e = changes refl
+
+  mode-kept : (e : MpeEvent) (a : ℕ) → Kept z (told (modeSet z e a) e)
+  mode-kept NoZone a = stays NoZone
+  mode-kept (Zone y m) a = stays (Zone y m)
+  mode-kept (Layout m) a = stays (Layout m)
+  mode-kept (Sensitivity y m) a = stays (Sensitivity y m)
+  mode-kept (Mode y) a = changes refl
+  mode-kept Ignored a = stays Ignored
+
+  said-kept : (channel : ℕ) (ro : MpeRole) (plain : MpeEvent) (said : Said) (a : ℕ) → Kept z (toldAs z channel ro plain said a)
+  said-kept channel ro plain (Configuration change) a = configured-kept (announcing channel) change
+  said-kept channel ro plain (BendSensitivity e) a = sensed-kept ro e
+  said-kept channel ro plain Nothing a = mode-kept plain a
+
+  pub zones-kept : (channel : ℕ) (ro : MpeRole) (plain : MpeEvent) (opcode : ℕ) (e : MaybeEvent) (a : ℕ)
+      → changesBy (toldAs z channel ro plain (saidBy opcode e) a .event) ≡ false → toldAs z channel ro plain (saidBy opcode e) a .zones ≡ z
+  zones-kept channel ro plain opcode e a = said-kept channel ro plain (saidBy opcode e) a .kept
+
+-- a message that sets no mode
+abbrev pub NoMode : ℕ → ℕ → Type 0
+NoMode o a = (o ≡ 0xB → (a ≡ 126 → ⊥) × (a ≡ 127 → ⊥))
+
+-- where no parameter event decides it tells of no change
+abbrev Still : MpeEvent → Type 0
+Still e = changesBy e ≡ false
+
+module _ (zone : MpeZone) (mono lowest : Bool) (o a : ℕ) (n : NoMode o a) where
+  still-mode : Still (inMode4 zone mono)
+  still-mode = of-both Still mono refl refl
+
+  member-still : Still (onMember zone mono lowest o a)
+  unfolding onMember
+  member-still =
+      of-both Still (eqb o 0xA) refl
+      (of-both Still (eqb o 0xC) still-mode
+      (by-test (eqb o 0xB)
+      (λ g.
+      let m = n (eqb-true o 0xB g) in
+      rw (g, ne-eqb a 126 (m .0), ne-eqb a 127 (m .1))
+      (of-both Still (eqb a 0) still-mode (of-both Still (eqb a 32) still-mode refl)))
+      (λ g. rw g)))
+
+pub event-still : (z : Zones) (channel : ℕ) (ro : MpeRole) (o a : ℕ) → NoMode o a → changesBy (eventOf z channel ro o a) ≡ false
+event-still z channel role.NoZone o a n = refl
+event-still z channel (role.Manager zone) o a n = refl
+event-still z channel (role.Member zone) o a n = member-still zone _ _ o a n
+
+-- with no parameter event a message is told by its channel's role
+pub plain-told : (z : Zones) (o channel a : ℕ)
+    → messageTold z NoEvent o channel a
+    ≡ told (modeSet z (eventOf z channel (roleHeld (z .layout) channel) o a) a) (eventOf z channel (roleHeld (z .layout) channel) o a)
+plain-told z o channel a = by-test (eqb o 0xB) (λ e. rw e) (λ e. rw e)
+
+pub quiet-event : (z : Zones) (o channel a : ℕ) → NoMode o a → changesBy (messageTold z NoEvent o channel a .event) ≡ false
+quiet-event z o channel a n = rw (plain-told z o channel a) (event-still z channel (roleHeld (z .layout) channel) o a n)

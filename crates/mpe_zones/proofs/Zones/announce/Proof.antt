@@ -1,0 +1,54 @@
+-- `mpe_zones::Zones::announce` meets its contract.
+-- Assumes nothing.
+use borrow.Author.Needs.{needs}
+use lib.Dec.{ltb}
+use mathlib.Core.Bool.{false}
+use mathlib.Core.Path.{_≡_, ap, _∙_}
+use Rattle.mpe_zones.specs.declared.MpeEvent.the-variants.{Layout}
+use Rattle.mpe_zones.specs.Zones.{withLayout, activatedIf, maskIn, announcementResets}
+use Rattle.mpe_zones.specs.Told.{told, announced}
+use Rattle.ump.proofs.Auto.{auto}
+use Rattle.mpe_zones.proofs.Zones.announce.Statement.{statement}
+use Rattle.mpe_zones.proofs.Zones.announce.Tie as tie
+
+with-event-requires : tie.Need-with-event-requires
+with-event-requires c κs = search needs
+
+returns : tie.Need-returns
+unfolding announced
+returns c = search (auto, c .with-event .ensures)
+
+announced-to-requires : tie.Need-announced-to-requires
+announced-to-requires c κs = search needs
+
+announcement-reset-requires : tie.Need-announcement-reset-requires
+announcement-reset-requires c κs = search needs
+
+mask-in-requires : tie.Need-mask-in-requires
+mask-in-requires c κs = search needs
+
+activate-if-requires : tie.Need-activate-if-requires
+activate-if-requires c κs = search needs
+
+returns-2 : tie.Need-returns-2
+unfolding announced
+returns-2 c =
+    let a = c .before .before .before .before .before .before .args in
+    let z = a .self in
+    let small : ltb 15 (a .members) ≡ false = search auto in
+    let mask = c .before .mask-in .ensures ∙ ap maskIn (c .before .before .announcement-reset .ensures) in
+    rw small
+    ((λ i. told (c .activate-if .ensures i) (Layout (mask i)))
+    ∙ ap (λ l. told (activatedIf (a .members) (withLayout z l) (a .zone)) (Layout (announcementResets (z .layout) l (a .zone)))) (c .before .before .before .announced-to .ensures))
+
+pub announce-spec : {M : Type 1} → statement M
+announce-spec =
+    tie.close
+    (tie.spec
+    with-event-requires
+    returns
+    announced-to-requires
+    announcement-reset-requires
+    mask-in-requires
+    activate-if-requires
+    returns-2)

@@ -1,0 +1,51 @@
+-- `mpe_zones::Zones::tell` meets its contract.
+-- Assumes nothing.
+use borrow.Author.Needs.{needs}
+use Rattle.ump.proofs.Auto.{auto}
+use Rattle.mpe_zones.proofs.Zones.tell.Statement.{statement}
+use Rattle.mpe_zones.proofs.Zones.tell.Tie as tie
+
+said-by-requires : tie.Need-said-by-requires
+said-by-requires c κs = search needs
+
+enum-told : tie.Need-enum-told
+enum-told c = search needs
+
+plain-requires : tie.Need-plain-requires
+plain-requires c κs = search needs
+
+enum-known-said : tie.Need-enum-known-said
+enum-known-said c = search needs
+
+mcm-requires : tie.Need-mcm-requires
+mcm-requires c κs = search needs
+
+enum-known-said-2 : tie.Need-enum-known-said-2
+enum-known-said-2 c = search needs
+
+sense-requires : tie.Need-sense-requires
+sense-requires c κs = search needs
+
+returns : tie.Need-returns
+returns c = search (auto, ← c .before .before .before .said-by .ensures, c .before .enum-told .given .1, c .plain .ensures)
+
+returns-2 : tie.Need-returns-2
+returns-2 c = search (auto, ← c .before .before .before .before .said-by .ensures, c .before .before .said .given .1, c .mcm .ensures)
+
+returns-3 : tie.Need-returns-3
+returns-3 c = search (auto, ← c .before .before .before .before .said-by .ensures, c .before .before .said2 .given .1, c .sense .ensures)
+
+pub tell-spec : {M : Type 1} → statement M
+tell-spec =
+    tie.close
+    (tie.spec
+    said-by-requires
+    enum-told
+    plain-requires
+    enum-known-said
+    mcm-requires
+    enum-known-said-2
+    sense-requires
+    returns
+    returns-2
+    returns-3)

@@ -1,0 +1,166 @@
+-- What a message does to the zones, and its event (document 01, "The receiver"; M1-100 2.2 and 2.3).
+use Prim.Native.Nat.{ℕ, _+_, _*_, _/_, _%_}
+use mathlib.Core.Bool.{Bool, true, false}
+use mathlib.Core.List.{List}
+use lib.ListN.{getD}
+use lib.Dec.{ltb, eqb}
+use Rattle.ump.specs.Choice.{if_then_else_}
+use Rattle.ump.specs.declared.controller.Rpn.{Rpn}
+use Rattle.ump.specs.declared.controller.Rpn.the-variants as rpn
+use Rattle.parameters.specs.Apply.{applied}
+use Rattle.parameters.specs.declared.Parameter.{Parameter}
+use Rattle.parameters.specs.declared.Parameter.the-variants.{Registered, NonRegistered}
+use Rattle.parameters.specs.declared.ParameterChange.{ParameterChange}
+use Rattle.parameters.specs.declared.ParameterChange.the-variants.{DataEntryMsb, DataEntryLsb, Increment, Decrement}
+use Rattle.parameters.specs.declared.ParameterEvent.{ParameterEvent}
+use Rattle.parameters.specs.declared.MaybeEvent.{MaybeEvent}
+use Rattle.parameters.specs.declared.MaybeEvent.the-variants.{NoEvent, Event}
+use Rattle.mpe_layout.specs.declared.MpeZone.{MpeZone}
+use Rattle.mpe_layout.specs.declared.MpeZone.the-variants.{Lower, Upper}
+use Rattle.mpe_layout.specs.declared.MpeRole.{MpeRole}
+use Rattle.mpe_layout.specs.declared.MpeRole.the-variants as role
+use Rattle.mpe_layout.specs.Layout.{ofLegal, lowestOrNone, membersOf}
+use Rattle.mpe_zones.specs.declared.MpeEvent.{MpeEvent}
+use Rattle.mpe_zones.specs.declared.MpeEvent.the-variants.{NoZone, Zone, Layout, Sensitivity, Mode, Ignored}
+use Rattle.mpe_zones.specs.declared.Said.{Said}
+use Rattle.mpe_zones.specs.declared.Said.the-variants.{Nothing, Configuration, BendSensitivity}
+use Rattle.mpe_zones.specs.declared.Told.{Told}
+use Rattle.mpe_zones.specs.declared.Zones.{Zones}
+use Rattle.mpe_zones.specs.Zones.{withLayout, withSensitivities, withMono, monoOf, slotOf, sensitivityPut, isLowest, activatedIf, roleHeld, announcedTo, announcementResets}
+
+-- the parameter of an event that concerns the receiver: RPN 6, the MPE Configuration Message (M1-100 2.2.1), and RPN 0 (2.2.5)
+abbrev pub saidByRpn : Rpn → ParameterEvent → Said
+saidByRpn rpn.PitchBendSensitivity e = BendSensitivity e
+saidByRpn rpn.FineTuning e = Nothing
+saidByRpn rpn.CoarseTuning e = Nothing
+saidByRpn rpn.TuningProgramSelect e = Nothing
+saidByRpn rpn.TuningBankSelect e = Nothing
+saidByRpn rpn.ModulationDepthRange e = Nothing
+saidByRpn rpn.Null e = Nothing
+saidByRpn (rpn.Other m l) e = if eqb m 0 then (if eqb l 6 then Configuration (e .change) else Nothing) else Nothing
+
+abbrev pub saidByParameter : Parameter → ParameterEvent → Said
+saidByParameter (Registered r) e = saidByRpn r e
+saidByParameter (NonRegistered m l) e = Nothing
+
+abbrev pub saidByEvent : MaybeEvent → Said
+saidByEvent NoEvent = Nothing
+saidByEvent (Event e) = saidByParameter (e .parameter) e
+
+-- an event is used only with a control change
+abbrev pub saidBy : ℕ → MaybeEvent → Said
+saidBy opcode e = if eqb opcode 0xB then saidByEvent e else Nothing
+
+abbrev pub told : Zones → MpeEvent → Told
+told z e = record { zones = z; event = e }
+
+-- a zone announcement with members 0 to 15 sets the layout and answers the reset mask
+unfoldable pub announced : Zones → MpeZone → ℕ → Told
+announced z zone members =
+    if ltb 15 members then told z Ignored else
+    told (activatedIf members (withLayout z (announcedTo (z .layout) zone members)) zone)
+    (Layout (announcementResets (z .layout) (announcedTo (z .layout) zone members) zone))
+
+-- only the Data Entry MSB announces (M1-100 2.2.1)
+abbrev pub configuredBy : Zones → MpeZone → ParameterChange → Told
+configuredBy z zone (DataEntryMsb members) = announced z zone members
+configuredBy z zone (DataEntryLsb d) = told z Ignored
+configuredBy z zone Increment = told z Ignored
+configuredBy z zone Decrement = told z Ignored
+
+-- on channel 0, Lower's manager, and on 15, Upper's
+abbrev pub announcing : ℕ → MpeRole
+announcing channel = if eqb channel 0 then role.Manager Lower else if eqb channel 15 then role.Manager Upper else role.NoZone
+
+abbrev pub configuredAs : Zones → MpeRole → ParameterChange → Told
+configuredAs z role.NoZone change = told z Ignored
+configuredAs z (role.Manager zone) change = configuredBy z zone change
+configuredAs z (role.Member zone) change = told z Ignored
+
+-- an MPE Configuration Message
+abbrev pub configured : Zones → ℕ → ParameterChange → Told
+configured z channel change = configuredAs z (announcing channel) change
+
+-- RPN 0 in a zone: the manager's sensitivity, or the one that all members share
+abbrev pub sensitivityApplied : List ℕ → ℕ → ParameterEvent → List ℕ
+sensitivityApplied l k e =
+    sensitivityPut l k (applied e (getD l k 0 * 128 + getD l (k + 1) 0) / 128) (applied e (getD l k 0 * 128 + getD l (k + 1) 0) % 128)
+
+abbrev pub sensedAs : List ℕ → MpeRole → ParameterEvent → List ℕ
+sensedAs l role.NoZone e = l
+sensedAs l (role.Manager zone) e = sensitivityApplied l (slotOf zone true) e
+sensedAs l (role.Member zone) e = sensitivityApplied l (slotOf zone false) e
+
+abbrev pub sensedEvent : MpeRole → MpeEvent
+sensedEvent role.NoZone = NoZone
+sensedEvent (role.Manager zone) = Sensitivity zone true
+sensedEvent (role.Member zone) = Sensitivity zone false
+
+abbrev pub sensed : Zones → MpeRole → ParameterEvent → Told
+sensed z ro e = told (withSensitivities z (sensedAs (z .sensitivity) ro e)) (sensedEvent ro)
+
+-- program change and bank select reach a member only in mode 4 (M1-100 2.3.3)
+abbrev pub inMode4 : MpeZone → Bool → MpeEvent
+inMode4 zone mono = if mono then Zone zone false else Ignored
+
+-- 126 and 127 set the mode on the lowest member (M1-100 2.2.4.3)
+abbrev pub modeMessage : MpeZone → Bool → MpeEvent
+modeMessage zone lowest = if lowest then Mode zone else Zone zone false
+
+-- a message on a member, by the zone's mode and whether the member is the lowest; poly pressure is prohibited (M1-100 2.2.7)
+unfoldable pub onMember : MpeZone → Bool → Bool → ℕ → ℕ → MpeEvent
+onMember zone mono lowest opcode a =
+    if eqb opcode 0xA then Ignored else
+    if eqb opcode 0xC then inMode4 zone mono else
+    if eqb opcode 0xB then
+    (if eqb a 0 then inMode4 zone mono else
+    if eqb a 32 then inMode4 zone mono else
+    if eqb a 126 then modeMessage zone lowest else
+    if eqb a 127 then modeMessage zone lowest else
+    Zone zone false)
+    else Zone zone false
+
+-- a message by its channel's role, where no parameter event decides
+abbrev pub eventOf : Zones → ℕ → MpeRole → ℕ → ℕ → MpeEvent
+eventOf z channel role.NoZone opcode a = NoZone
+eventOf z channel (role.Manager zone) opcode a = Zone zone true
+eventOf z channel (role.Member zone) opcode a =
+    onMember zone (monoOf z zone) (isLowest (ofLegal (z .layout) (lowestOrNone zone (membersOf (z .layout) zone))) channel) opcode a
+
+-- only an event of mode alters the modes: 126 is mono, 127 poly
+abbrev pub modeSet : Zones → MpeEvent → ℕ → Zones
+modeSet z NoZone a = z
+modeSet z (Zone y m) a = z
+modeSet z (Layout m) a = z
+modeSet z (Sensitivity y m) a = z
+modeSet z (Mode y) a = withMono z y (eqb a 126)
+modeSet z Ignored a = z
+
+-- the first case that fits; `plain` is the event where no parameter event decides
+abbrev pub toldAs : Zones → ℕ → MpeRole → MpeEvent → Said → ℕ → Told
+toldAs z channel ro plain (Configuration change) a = configured z channel change
+toldAs z channel ro plain (BendSensitivity e) a = sensed z ro e
+toldAs z channel ro plain Nothing a = told (modeSet z plain a) plain
+
+-- a message whose fields are cut, with the event that its channel's parameters gave for it
+abbrev pub messageTold : Zones → MaybeEvent → ℕ → ℕ → ℕ → Told
+messageTold z e opcode channel a =
+    toldAs z channel (roleHeld (z .layout) channel) (eventOf z channel (roleHeld (z .layout) channel) opcode a) (saidBy opcode e) a
+
+-- the channels that an event resets
+abbrev pub resetIn : MpeEvent → ℕ
+resetIn NoZone = 0
+resetIn (Zone z m) = 0
+resetIn (Layout m) = m
+resetIn (Sensitivity z m) = 0
+resetIn (Mode z) = 0
+resetIn Ignored = 0
+
+-- an event that tells of a change of the zones
+abbrev pub changesBy : MpeEvent → Bool
+changesBy NoZone = false
+changesBy (Zone z m) = false
+changesBy (Layout m) = true
+changesBy (Sensitivity z m) = true
+changesBy (Mode z) = true
+changesBy Ignored = false

@@ -1,0 +1,568 @@
+// The zones of an MPE receiver (mpe.rs): the layout, the modes and the sensitivities, and what a message does to them.
+ghost use mathlib.Core.Path.{_≡_};
+ghost use Prim.Native.Nat.{_<_, _*_, _+_};
+ghost use Rattle.mpe_layout.specs.Layout.{layoutMade, roleFound, lowestFound};
+ghost use Rattle.mpe_layout.specs.Reset.{maskFound};
+ghost use Rattle.mpe_zones.specs.Zones.{withMono, monoOf, slotOf, sensitivityAt, sensitivityPut, sensitivityOf, activated, activatedIf, roleIn, roleHeld, layoutIn, announcedTo, maskIn, isLowest, laidOut};
+ghost use Rattle.mpe_zones.specs.Told.{saidByRpn, saidByParameter, saidByEvent, saidBy, told, announced, configuredBy, configured, announcing, sensitivityApplied, sensedAs, sensed, sensedEvent, inMode4, modeMessage, onMember, eventOf, modeSet, toldAs, resetIn, changesBy};
+use mpe_layout::FoundRole;
+use mpe_layout::LowestMember;
+use mpe_layout::MadeLayout;
+use mpe_layout::MpeLayout;
+use mpe_layout::MpeRole;
+use mpe_layout::MpeZone;
+use mpe_layout::ResetMask;
+use mpe_layout::announcement_reset;
+use mpe_pitch::MpeSensitivity;
+use parameters::MaybeEvent;
+use parameters::Parameter;
+use parameters::ParameterChange;
+use parameters::ParameterEvent;
+use ump::controller::Rpn;
+
+// What one message gives.
+pub enum MpeEvent {
+    // The channel is in no zone: a conventional MIDI 1.0 message.
+    NoZone,
+    // A message on a channel of a zone.
+    Zone { zone: MpeZone, manager: bool },
+    // An announcement changed the layout; bit n of `reset` is channel n.
+    Layout { reset: u16 },
+    // RPN 0 changed the manager's or the members' sensitivity.
+    Sensitivity { zone: MpeZone, manager: bool },
+    // The mode of a zone changed.
+    Mode { zone: MpeZone },
+    // A message that MPE prohibits, or that has no function here.
+    Ignored,
+}
+
+// What a parameter event says to the receiver.
+enum Said {
+    Nothing,
+    // RPN 6, the MPE Configuration Message.
+    Configuration(ParameterChange),
+    // RPN 0.
+    BendSensitivity(ParameterEvent),
+}
+
+// The zones of a receiver: the layout, and the mode and the sensitivities of each zone.
+pub struct Zones {
+    pub layout: MpeLayout,
+    pub lower_mono: bool,
+    pub upper_mono: bool,
+    pub sensitivity: [u8; 8],
+}
+
+// The zones after a message, and its event.
+pub struct Told {
+    pub zones: Zones,
+    pub event: MpeEvent,
+}
+
+fn said_by_rpn(rpn: Rpn, event: ParameterEvent) -> Said
+    ensures { λ r. ⌜ r ≡ saidByRpn rpn event ⌝ }
+{
+    match rpn {
+        Rpn::PitchBendSensitivity => Said::BendSensitivity(event),
+        Rpn::FineTuning => Said::Nothing,
+        Rpn::CoarseTuning => Said::Nothing,
+        Rpn::TuningProgramSelect => Said::Nothing,
+        Rpn::TuningBankSelect => Said::Nothing,
+        Rpn::ModulationDepthRange => Said::Nothing,
+        Rpn::Null => Said::Nothing,
+        Rpn::Other { msb, lsb } => {
+            if msb != 0 {
+                return Said::Nothing;
+            }
+            if lsb != 6 {
+                return Said::Nothing;
+            }
+            let change = event.change;
+            Said::Configuration(change)
+        }
+    }
+}
+
+fn said_by_parameter(parameter: Parameter, event: ParameterEvent) -> Said
+    ensures { λ r. ⌜ r ≡ saidByParameter parameter event ⌝ }
+{
+    match parameter {
+        Parameter::Registered(rpn) => said_by_rpn(rpn, event),
+        Parameter::NonRegistered { msb: _, lsb: _ } => Said::Nothing,
+    }
+}
+
+fn said_by_event(parameter: MaybeEvent) -> Said
+    ensures { λ r. ⌜ r ≡ saidByEvent parameter ⌝ }
+{
+    match parameter {
+        MaybeEvent::NoEvent => Said::Nothing,
+        MaybeEvent::Event(e) => {
+            let p = e.parameter;
+            said_by_parameter(p, e)
+        }
+    }
+}
+
+// What an event says with a message of this opcode.
+fn said_by(opcode: u8, parameter: MaybeEvent) -> Said
+    ensures { λ r. ⌜ r ≡ saidBy opcode parameter ⌝ }
+{
+    if opcode == 0xB {
+        return said_by_event(parameter);
+    }
+    Said::Nothing
+}
+
+fn role_in(found: FoundRole) -> MpeRole
+    ensures { λ r. ⌜ r ≡ roleIn (roleFound found) ⌝ }
+{
+    match found {
+        FoundRole::Role(r) => r,
+        FoundRole::OutOfRange => MpeRole::NoZone,
+    }
+}
+
+// The role of a channel in the layout held.
+fn role_held(layout: MpeLayout, channel: u8) -> MpeRole
+    ensures { λ r. ⌜ r ≡ roleHeld layout channel ⌝ }
+{
+    role_in(layout.role(channel))
+}
+
+fn layout_in(layout: MpeLayout, made: MadeLayout) -> MpeLayout
+    ensures { λ r. ⌜ r ≡ layoutIn layout (layoutMade made) ⌝ }
+{
+    match made {
+        MadeLayout::Made(l) => l,
+        MadeLayout::OutOfRange => layout,
+    }
+}
+
+// The layout held after an announcement.
+fn announced_to(layout: MpeLayout, zone: MpeZone, members: u8) -> MpeLayout
+    ensures { λ r. ⌜ r ≡ announcedTo layout zone members ⌝ }
+{
+    layout_in(layout, layout.with_mcm(zone, members))
+}
+
+// The channels of a mask, or none.
+pub fn mask_in(found: ResetMask) -> u16
+    ensures { λ r. ⌜ r ≡ maskIn (maskFound found) ⌝ }
+{
+    match found {
+        ResetMask::Mask(m) => m,
+        ResetMask::OutOfRange => 0,
+    }
+}
+
+// Where a zone's manager or member sensitivity stands.
+fn slot(zone: MpeZone, manager: bool) -> usize
+    ensures { λ r. ⌜ r ≡ slotOf zone manager ⌝ }
+{
+    match zone {
+        MpeZone::Lower => {
+            if manager {
+                return 0;
+            }
+            2
+        }
+        MpeZone::Upper => {
+            if manager {
+                return 4;
+            }
+            6
+        }
+    }
+}
+
+// One sensitivity put to semitones and cents.
+fn put_sensitivity(l: [u8; 8], k: usize, semitones: u8, cents: u8) -> [u8; 8]
+    requires { ⌜ k < 7 ⌝ }
+    ensures { λ r. ⌜ r ≡ sensitivityPut l k semitones cents ⌝ }
+{
+    let mut s = l;
+    let j = k + 1;
+    s[k] = semitones;
+    s[j] = cents;
+    s
+}
+
+// Semitones and cents as the 14-bit value of RPN 0.
+fn value_of(semitones: u8, cents: u8) -> u16
+    ensures { λ r. ⌜ r ≡ semitones * 128 + cents ⌝ }
+{
+    semitones as u16 * 128 + cents as u16
+}
+
+// A change of the sensitivity that stands at k.
+fn apply_at(l: [u8; 8], k: usize, event: ParameterEvent) -> [u8; 8]
+    requires { ⌜ k < 7 ⌝ }
+    ensures { λ r. ⌜ r ≡ sensitivityApplied l k event ⌝ }
+{
+    let j = k + 1;
+    let value = event.apply(value_of(l[k], l[j]));
+    put_sensitivity(l, k, (value / 128) as u8, (value % 128) as u8)
+}
+
+// The sensitivity that stands at k.
+fn read_sensitivity(l: [u8; 8], k: usize) -> MpeSensitivity
+    requires { ⌜ k < 7 ⌝ }
+    ensures { λ r. ⌜ r ≡ sensitivityAt l k ⌝ }
+{
+    let j = k + 1;
+    MpeSensitivity {
+        semitones: l[k],
+        cents: l[j],
+    }
+}
+
+// The channel is the zone's lowest member.
+fn is_lowest(found: LowestMember, channel: u8) -> bool
+    ensures { λ r. ⌜ r ≡ isLowest (lowestFound found) channel ⌝ }
+{
+    match found {
+        LowestMember::Channel(c) => channel == c,
+        LowestMember::NoMembers => false,
+        LowestMember::OutOfRange => false,
+    }
+}
+
+// Program change and bank select reach a member only in mode 4.
+fn event_in_mode_4(zone: MpeZone, mono: bool) -> MpeEvent
+    ensures { λ r. ⌜ r ≡ inMode4 zone mono ⌝ }
+{
+    if mono {
+        return MpeEvent::Zone {
+            zone,
+            manager: false,
+        };
+    }
+    MpeEvent::Ignored
+}
+
+// Controllers 126 and 127 set the mode on the lowest member.
+fn mode_event(zone: MpeZone, lowest: bool) -> MpeEvent
+    ensures { λ r. ⌜ r ≡ modeMessage zone lowest ⌝ }
+{
+    if lowest {
+        return MpeEvent::Mode { zone };
+    }
+    MpeEvent::Zone {
+        zone,
+        manager: false,
+    }
+}
+
+// A message on a member, by the zone's mode and whether the member is the lowest.
+fn event_on_member(zone: MpeZone, mono: bool, lowest: bool, opcode: u8, first: u8) -> MpeEvent
+    ensures { λ r. ⌜ r ≡ onMember zone mono lowest opcode first ⌝ }
+{
+    if opcode == 0xA {
+        return MpeEvent::Ignored;
+    }
+    if opcode == 0xC {
+        return event_in_mode_4(zone, mono);
+    }
+    if opcode != 0xB {
+        return MpeEvent::Zone {
+            zone,
+            manager: false,
+        };
+    }
+    if first == 0 {
+        return event_in_mode_4(zone, mono);
+    }
+    if first == 32 {
+        return event_in_mode_4(zone, mono);
+    }
+    if first == 126 {
+        return mode_event(zone, lowest);
+    }
+    if first == 127 {
+        return mode_event(zone, lowest);
+    }
+    MpeEvent::Zone {
+        zone,
+        manager: false,
+    }
+}
+
+// RPN 0: the sensitivities after it.
+fn sensitivity_after(l: [u8; 8], role: MpeRole, event: ParameterEvent) -> [u8; 8]
+    ensures { λ r. ⌜ r ≡ sensedAs l role event ⌝ }
+{
+    match role {
+        MpeRole::NoZone => l,
+        MpeRole::Manager(zone) => apply_at(l, slot(zone, true), event),
+        MpeRole::Member(zone) => apply_at(l, slot(zone, false), event),
+    }
+}
+
+fn sensitivity_event(role: MpeRole) -> MpeEvent
+    ensures { λ r. ⌜ r ≡ sensedEvent role ⌝ }
+{
+    match role {
+        MpeRole::NoZone => MpeEvent::NoZone,
+        MpeRole::Manager(zone) => MpeEvent::Sensitivity {
+            zone,
+            manager: true,
+        },
+        MpeRole::Member(zone) => MpeEvent::Sensitivity {
+            zone,
+            manager: false,
+        },
+    }
+}
+
+// Channel 0 announces Lower, and channel 15 Upper.
+fn announcing_role(channel: u8) -> MpeRole
+    ensures { λ r. ⌜ r ≡ announcing channel ⌝ }
+{
+    if channel == 0 {
+        return MpeRole::Manager(MpeZone::Lower);
+    }
+    if channel == 15 {
+        return MpeRole::Manager(MpeZone::Upper);
+    }
+    MpeRole::NoZone
+}
+
+// The channels that an event resets.
+pub fn reset_in(event: MpeEvent) -> u16
+    ensures { λ r. ⌜ r ≡ resetIn event ⌝ }
+{
+    match event {
+        MpeEvent::NoZone => 0,
+        MpeEvent::Zone {
+            zone: _,
+            manager: _,
+        } => 0,
+        MpeEvent::Layout { reset } => reset,
+        MpeEvent::Sensitivity {
+            zone: _,
+            manager: _,
+        } => 0,
+        MpeEvent::Mode { zone: _ } => 0,
+        MpeEvent::Ignored => 0,
+    }
+}
+
+// The event tells of a change of the zones.
+pub fn changes(event: MpeEvent) -> bool
+    ensures { λ r. ⌜ r ≡ changesBy event ⌝ }
+{
+    match event {
+        MpeEvent::NoZone => false,
+        MpeEvent::Zone {
+            zone: _,
+            manager: _,
+        } => false,
+        MpeEvent::Layout { reset: _ } => true,
+        MpeEvent::Sensitivity {
+            zone: _,
+            manager: _,
+        } => true,
+        MpeEvent::Mode { zone: _ } => true,
+        MpeEvent::Ignored => false,
+    }
+}
+
+impl Zones {
+    // The mode of a zone becomes 4 (mono) or 3.
+    fn with_mono(self, zone: MpeZone, mono: bool) -> Zones
+        ensures { λ r. ⌜ r ≡ withMono self zone mono ⌝ }
+    {
+        let mut z = self;
+        match zone {
+            MpeZone::Lower => {
+                z.lower_mono = mono;
+                z
+            }
+            MpeZone::Upper => {
+                z.upper_mono = mono;
+                z
+            }
+        }
+    }
+
+    // The mode of a zone is 4 (mono).
+    pub fn is_mono(self, zone: MpeZone) -> bool
+        ensures { λ r. ⌜ r ≡ monoOf self zone ⌝ }
+    {
+        match zone {
+            MpeZone::Lower => self.lower_mono,
+            MpeZone::Upper => self.upper_mono,
+        }
+    }
+
+    // The values of a zone that is announced or set with members.
+    fn activate(self, zone: MpeZone) -> Zones
+        ensures { λ r. ⌜ r ≡ activated self zone ⌝ }
+    {
+        let m = MpeSensitivity::MANAGER_DEFAULT;
+        let n = MpeSensitivity::MEMBER_DEFAULT;
+        let old = self.sensitivity;
+        let managed = put_sensitivity(old, slot(zone, true), m.semitones, m.cents);
+        let both = put_sensitivity(managed, slot(zone, false), n.semitones, n.cents);
+        let mut z = self;
+        z.sensitivity = both;
+        z.with_mono(zone, false)
+    }
+
+    fn activate_if(self, members: u8, zone: MpeZone) -> Zones
+        ensures { λ r. ⌜ r ≡ activatedIf members self zone ⌝ }
+    {
+        if 0 < members {
+            return self.activate(zone);
+        }
+        self
+    }
+
+    // The layout changes, and each zone with members is activated.
+    pub fn lay_out(self, layout: MpeLayout) -> Zones
+        ensures { λ r. ⌜ r ≡ laidOut self layout ⌝ }
+    {
+        let mut laid = self;
+        laid.layout = layout;
+        laid.activate_if(layout.lower, MpeZone::Lower)
+            .activate_if(layout.upper, MpeZone::Upper)
+    }
+
+    // The manager's or the members' sensitivity of a zone.
+    pub fn sensitivity(self, zone: MpeZone, manager: bool) -> MpeSensitivity
+        ensures { λ r. ⌜ r ≡ sensitivityOf self zone manager ⌝ }
+    {
+        let l = self.sensitivity;
+        read_sensitivity(l, slot(zone, manager))
+    }
+
+    fn with_event(self, event: MpeEvent) -> Told
+        ensures { λ r. ⌜ r ≡ told self event ⌝ }
+    {
+        Told { zones: self, event }
+    }
+
+    // A zone announcement.
+    fn announce(self, zone: MpeZone, members: u8) -> Told
+        ensures { λ r. ⌜ r ≡ announced self zone members ⌝ }
+    {
+        if 15 < members {
+            return self.with_event(MpeEvent::Ignored);
+        }
+        let before = self.layout;
+        let after = announced_to(before, zone, members);
+        let mask = mask_in(announcement_reset(before, after, zone));
+        let mut laid = self;
+        laid.layout = after;
+        let zones = laid.activate_if(members, zone);
+        Told {
+            zones,
+            event: MpeEvent::Layout { reset: mask },
+        }
+    }
+
+    fn configure(self, zone: MpeZone, change: ParameterChange) -> Told
+        ensures { λ r. ⌜ r ≡ configuredBy self zone change ⌝ }
+    {
+        match change {
+            ParameterChange::DataEntryMsb(members) => self.announce(zone, members),
+            ParameterChange::DataEntryLsb(_) => self.with_event(MpeEvent::Ignored),
+            ParameterChange::Increment => self.with_event(MpeEvent::Ignored),
+            ParameterChange::Decrement => self.with_event(MpeEvent::Ignored),
+        }
+    }
+
+    // An MPE Configuration Message.
+    fn mcm(self, channel: u8, change: ParameterChange) -> Told
+        ensures { λ r. ⌜ r ≡ configured self channel change ⌝ }
+    {
+        let role = announcing_role(channel);
+        match role {
+            MpeRole::NoZone => self.with_event(MpeEvent::Ignored),
+            MpeRole::Manager(zone) => self.configure(zone, change),
+            MpeRole::Member(_) => self.with_event(MpeEvent::Ignored),
+        }
+    }
+
+    // The role of a channel.
+    pub fn role(self, channel: u8) -> MpeRole
+        ensures { λ r. ⌜ r ≡ roleHeld (self .layout) channel ⌝ }
+    {
+        let layout = self.layout;
+        role_held(layout, channel)
+    }
+
+    // A message by its channel's role, where no parameter event decides.
+    pub fn event(self, role: MpeRole, opcode: u8, channel: u8, first: u8) -> MpeEvent
+        ensures { λ r. ⌜ r ≡ eventOf self channel role opcode first ⌝ }
+    {
+        match role {
+            MpeRole::NoZone => MpeEvent::NoZone,
+            MpeRole::Manager(zone) => MpeEvent::Zone {
+                zone,
+                manager: true,
+            },
+            MpeRole::Member(zone) => {
+                let layout = self.layout;
+                let lowest = is_lowest(layout.lowest_member(zone), channel);
+                event_on_member(zone, self.is_mono(zone), lowest, opcode, first)
+            }
+        }
+    }
+
+    // The zones after a message that no parameter event decides.
+    fn plain(self, event: MpeEvent, first: u8) -> Told
+        ensures { λ r. ⌜ r ≡ told (modeSet self event first) event ⌝ }
+    {
+        match event {
+            MpeEvent::NoZone => self.with_event(event),
+            MpeEvent::Zone {
+                zone: _,
+                manager: _,
+            } => self.with_event(event),
+            MpeEvent::Layout { reset: _ } => self.with_event(event),
+            MpeEvent::Sensitivity {
+                zone: _,
+                manager: _,
+            } => self.with_event(event),
+            MpeEvent::Mode { zone } => {
+                let z = self.with_mono(zone, first == 126);
+                z.with_event(event)
+            }
+            MpeEvent::Ignored => self.with_event(event),
+        }
+    }
+
+    // RPN 0: the manager's or the members' sensitivity in a zone.
+    fn sense(self, role: MpeRole, event: ParameterEvent) -> Told
+        ensures { λ r. ⌜ r ≡ sensed self role event ⌝ }
+    {
+        let l = self.sensitivity;
+        let after = sensitivity_after(l, role, event);
+        let mut zones = self;
+        zones.sensitivity = after;
+        let e = sensitivity_event(role);
+        Told { zones, event: e }
+    }
+
+    // The zones after a message: by its channel's role and the event that it is where no parameter event decides.
+    pub fn tell(
+        self,
+        parameter: MaybeEvent,
+        role: MpeRole,
+        plain: MpeEvent,
+        opcode: u8,
+        channel: u8,
+        first: u8,
+    ) -> Told
+        ensures { λ r. ⌜ r ≡ toldAs self channel role plain (saidBy opcode parameter) first ⌝ }
+    {
+        let said = said_by(opcode, parameter);
+        match said {
+            Said::Nothing => self.plain(plain, first),
+            Said::Configuration(change) => self.mcm(channel, change),
+            Said::BendSensitivity(event) => self.sense(role, event),
+        }
+    }
+}
