@@ -213,9 +213,10 @@ mask-zones (Announced Lower) a b c d = rw (mask-or a c 16, mask-xor b d 16) (mas
 mask-zones (Announced Upper) a b c d = rw (mask-or b d 16, mask-xor a c 16) (mask-or _ _ 16)
 mask-zones Set a b c d = rw (mask-or a b 16, mask-or _ c 16) (mask-or _ d 16)
 
--- it is the mask of the channels that the change resets
+-- of the masks of the zones it is the mask of the channels that the change resets
 pub zones-mask : (change : Change) (before after : MpeLayout) → legal before ≡ true → legal after ≡ true
-    → zonesMask change (maskTo (inLower (before .lower)) 16) (maskTo (inUpper (before .upper)) 16) (maskTo (inLower (after .lower)) 16) (maskTo (inUpper (after .upper)) 16)
-    ≡ maskTo (hitBy change before after) 16
-zones-mask change before after p q =
-    mask-zones change _ _ _ _ ∙ sym (mask-ext _ _ 16 (hit-zones change before after p q))
+    → {a b c d : ℕ} → a ≡ maskTo (inLower (before .lower)) 16 → b ≡ maskTo (inUpper (before .upper)) 16
+    → c ≡ maskTo (inLower (after .lower)) 16 → d ≡ maskTo (inUpper (after .upper)) 16
+    → zonesMask change a b c d ≡ maskTo (hitBy change before after) 16
+zones-mask change before after p q a b c d =
+    (λ i. zonesMask change (a i) (b i) (c i) (d i)) ∙ mask-zones change _ _ _ _ ∙ sym (mask-ext _ _ 16 (hit-zones change before after p q))

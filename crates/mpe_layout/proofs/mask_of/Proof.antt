@@ -35,21 +35,36 @@ enum-told-3 c = search needs
 
 returns : tie.Need-returns
 returns c =
-    let s = c .before .before .before .before .before .before .before .before .before in
-    let law = zones-mask (Announced Lower) (s .args .before) (s .args .after) (s .pre .0) (s .pre .1) in
-    rw (c .before .before .before .change .given .1, c .enum-told .given .1) (cc)
+    let m = c .before .before .before .before .before in
+    let s = m .before .before .before .before in
+    rw (c .before .before .before .change .given .1, c .enum-told .given .1)
+    (zones-mask (Announced Lower) (s .args .before) (s .args .after) (s .pre .0) (s .pre .1)
+    (m .before .before .before .lower-mask .ensures)
+    (m .before .before .upper-mask .ensures)
+    (m .before .lower-mask2 .ensures)
+    (m .upper-mask2 .ensures))
 
 returns-2 : tie.Need-returns-2
 returns-2 c =
-    let s = c .before .before .before .before .before .before .before .before .before in
-    let law = zones-mask (Announced Upper) (s .args .before) (s .args .after) (s .pre .0) (s .pre .1) in
-    rw (c .before .before .before .change .given .1, c .enum-told2 .given .1) (cc)
+    let m = c .before .before .before .before .before in
+    let s = m .before .before .before .before in
+    rw (c .before .before .before .change .given .1, c .enum-told2 .given .1)
+    (zones-mask (Announced Upper) (s .args .before) (s .args .after) (s .pre .0) (s .pre .1)
+    (m .before .before .before .lower-mask .ensures)
+    (m .before .before .upper-mask .ensures)
+    (m .before .lower-mask2 .ensures)
+    (m .upper-mask2 .ensures))
 
 returns-3 : tie.Need-returns-3
 returns-3 c =
-    let s = c .before .before .before .before .before .before in
-    let law = zones-mask Set (s .args .before) (s .args .after) (s .pre .0) (s .pre .1) in
-    rw (c .enum-told3 .given .1) (cc)
+    let m = c .before .before in
+    let s = m .before .before .before .before in
+    rw (c .enum-told3 .given .1)
+    (zones-mask Set (s .args .before) (s .args .after) (s .pre .0) (s .pre .1)
+    (m .before .before .before .lower-mask .ensures)
+    (m .before .before .upper-mask .ensures)
+    (m .before .lower-mask2 .ensures)
+    (m .upper-mask2 .ensures))
 
 pub mask-of-spec : {M : Type 1} → statement M
 mask-of-spec =

@@ -1,7 +1,8 @@
 -- `mpe_layout::reset` meets its contract: both layouts are tested, and the mask is that of `mask_of`.
 -- Assumes nothing.
-use mathlib.Core.Path.{sym, _∙_}
+use mathlib.Core.Path.{ap, sym, _∙_}
 use borrow.Author.Needs.{needs}
+use Rattle.ump.specs.Outcome.{given}
 use Rattle.mpe_layout.proofs.reset.Statement.{statement}
 use Rattle.mpe_layout.proofs.reset.Tie as tie
 
@@ -15,7 +16,7 @@ mask-of-requires : tie.Need-mask-of-requires
 mask-of-requires c κs = (sym (c .before .before .before .is-layout .ensures) ∙ c .before .before .if1 .taken, sym (c .before .is-layout2 .ensures) ∙ c .if2 .taken)
 
 returns : tie.Need-returns
-returns c = rw (sym (c .before .before .before .before .is-layout .ensures) ∙ c .before .before .before .if1 .taken, sym (c .before .before .is-layout2 .ensures) ∙ c .before .if2 .taken) (cc)
+returns c = rw (sym (c .before .before .before .before .is-layout .ensures) ∙ c .before .before .before .if1 .taken, sym (c .before .before .is-layout2 .ensures) ∙ c .before .if2 .taken) (ap given (c .mask-of .ensures))
 
 returns-2 : tie.Need-returns-2
 returns-2 c = rw (sym (c .before .before .before .is-layout .ensures) ∙ c .before .before .if1 .taken, sym (c .before .is-layout2 .ensures) ∙ c .if2 .left)

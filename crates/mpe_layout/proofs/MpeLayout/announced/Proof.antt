@@ -1,9 +1,10 @@
 -- `mpe_layout::MpeLayout::announced` meets its contract: above 15 no change, else what is left beside the members.
 -- Assumes nothing.
+use mathlib.Core.Path.{ap, _∙_}
 use borrow.Author.Tests.{le-ltb}
 use borrow.Author.Needs.{needs}
 use Rattle.ump.proofs.Auto.{auto}
-use Rattle.mpe_layout.specs.Layout.{withMcm}
+use Rattle.mpe_layout.specs.Layout.{membersOf, leftBeside, layoutFor, withMcm}
 use Rattle.mpe_layout.proofs.MpeLayout.announced.Statement.{statement}
 use Rattle.mpe_layout.proofs.MpeLayout.announced.Tie as tie
 
@@ -25,7 +26,15 @@ layout-for-requires c κs = search needs
 
 returns-2 : tie.Need-returns-2
 unfolding withMcm
-returns-2 c = rw (le-ltb 15 _ (c .before .before .before .before .if1 .left)) (cc)
+returns-2 c =
+    let e = c .before .before .before .before in
+    let args = e .before .args in
+    rw (le-ltb 15 _ (e .if1 .left))
+    (c .layout-for .ensures
+    ∙ ap (layoutFor (args .zone) (args .members))
+    (c .before .left-beside .ensures
+    ∙ ap (leftBeside (args .members))
+    (c .before .before .count .ensures ∙ ap (membersOf (args .self)) (c .before .before .before .other .ensures))))
 
 pub announced-spec : {M : Type 1} → statement M
 announced-spec =

@@ -10,7 +10,7 @@ is-legal-requires c κs = search needs
 
 returns : tie.Need-returns
 unfolding legal
-returns c = cc
+returns c = c .is-legal .ensures
 
 pub is-layout-spec : {M : Type 1} → statement M
 is-layout-spec = tie.close (tie.spec is-legal-requires returns)

@@ -1,7 +1,8 @@
 -- `mpe_layout::MpeLayout::role_in` meets its contract: the places in the two zones.
 -- Assumes nothing.
+use mathlib.Core.Path.{_∙_}
 use borrow.Author.Needs.{needs}
-use Rattle.mpe_layout.specs.Layout.{roleOf}
+use Rattle.mpe_layout.specs.Layout.{roleAt, roleOf}
 use Rattle.mpe_layout.proofs.MpeLayout.role_in.Statement.{statement}
 use Rattle.mpe_layout.proofs.MpeLayout.role_in.Tie as tie
 
@@ -19,7 +20,7 @@ role-at-requires c κs = search needs
 
 returns : tie.Need-returns
 unfolding roleOf
-returns c = cc
+returns c = c .role-at .ensures ∙ (λ i. roleAt (c .before .before .place .ensures i) (c .before .place2 .ensures i))
 
 pub role-in-spec : {M : Type 1} → statement M
 role-in-spec =
