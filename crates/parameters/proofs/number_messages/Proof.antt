@@ -1,6 +1,9 @@
 -- `parameters::number_messages` meets its contract.
 -- Assumes nothing.
+use mathlib.Core.Path.{_∙_}
+use mathlib.Core.List.{[], _∷_}
 use borrow.Author.Needs.{needs}
+use Rattle.ump.specs.Outcome.{allOf}
 use Rattle.parameters.proofs.number_messages.Statement.{statement}
 use Rattle.parameters.proofs.number_messages.Tie as tie
 
@@ -14,7 +17,9 @@ two-words-requires : tie.Need-two-words-requires
 two-words-requires c κs = search needs
 
 returns : tie.Need-returns
-returns c = cc
+returns c =
+    c .two-words .ensures
+    ∙ (λ i. allOf (c .before .before .control-change .ensures i ∷ c .before .control-change2 .ensures i ∷ []))
 
 pub number-messages-spec : {M : Type 1} → statement M
 number-messages-spec =

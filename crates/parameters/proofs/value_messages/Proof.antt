@@ -4,9 +4,10 @@ use borrow.Author.Needs.{needs}
 use Rattle.parameters.proofs.value_messages.Statement.{statement}
 use Rattle.parameters.proofs.value_messages.Tie as tie
 use Rattle.ump.proofs.Auto.{auto}
-use mathlib.Core.Path.{_≡_}
-use mathlib.Core.Bool.{false}
-use lib.Dec.{ltb}
+use mathlib.Core.Path.{_∙_}
+use mathlib.Core.List.{[], _∷_}
+use borrow.Author.Tests.{le-ltb}
+use Rattle.ump.specs.Outcome.{allOf, followedBy}
 use Rattle.parameters.specs.Writers.{valueMessages}
 
 returns : tie.Need-returns
@@ -37,9 +38,12 @@ two-and-two-requires c κs = search needs
 returns-2 : tie.Need-returns-2
 unfolding valueMessages
 returns-2 c =
-    let a = c .before .before .before .before .before .before .args in
-    let t : ltb 0x3FFF (a .value) ≡ false = search auto in
-    rw t (cc)
+    let w = c .before in
+    let e = w .before .before .before .before in
+    rw (le-ltb 0x3FFF _ (e .if1 .left))
+    (c .two-and-two .ensures
+    ∙ (λ i. followedBy (w .before .before .before .select-messages .ensures i)
+    ((w .two-words .ensures ∙ (λ j. allOf (w .before .before .control-change .ensures j ∷ w .before .control-change2 .ensures j ∷ []))) i)))
 
 pub value-messages-spec : {M : Type 1} → statement M
 value-messages-spec =

@@ -1,6 +1,8 @@
 -- `parameters::ParameterState::receive` meets its contract.
 -- Assumes nothing.
 use borrow.Author.Needs.{needs}
+use Rattle.ump.specs.Outcome.{given}
+use Rattle.parameters.specs.State.{heardOf}
 use Rattle.parameters.proofs.ParameterState.receive.Statement.{statement}
 use Rattle.parameters.proofs.ParameterState.receive.Tie as tie
 use mathlib.Core.Path.{sym, _∙_}
@@ -22,8 +24,12 @@ hear-requires c κs = search needs
 
 returns : tie.Need-returns
 returns c =
-    let t = sym (c .before .before .before .before .before .before .is-message .ensures) ∙ c .before .before .before .before .before .if1 .taken in
-    (rw t (cc), rw t (cc))
+    let d = c .before .before in
+    let o = d .before .before in
+    let t = sym (o .before .before .is-message .ensures) ∙ o .before .if1 .taken in
+    let h = c .before .hear .ensures
+    ∙ (λ i. heardOf (o .before .before .before .args .self) (o .opcode .ensures i) (d .before .first-data .ensures i) (d .second-data .ensures i)) in
+    (rw t (λ i. given (h i .event)), rw t (λ i. h i .state))
 
 returns-2 : tie.Need-returns-2
 returns-2 c =
