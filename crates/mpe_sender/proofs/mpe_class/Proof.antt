@@ -1,6 +1,8 @@
 -- `mpe_sender::mpe_class` meets its contract: a column of the kind's row.
 -- Assumes nothing.
+use mathlib.Core.Path.{ap, _∙_}
 use borrow.Author.Needs.{needs}
+use Rattle.mpe_sender.specs.Classes.{columnOf}
 use Rattle.mpe_sender.proofs.mpe_class.Statement.{statement}
 use Rattle.mpe_sender.proofs.mpe_class.Tie as tie
 
@@ -11,7 +13,9 @@ column-requires : tie.Need-column-requires
 column-requires c κs = search needs
 
 returns : tie.Need-returns
-returns c = cc
+returns c =
+    let a = c .before .before .args in
+    c .column .ensures ∙ ap (λ row. columnOf row (a .manager) (a .transmit)) (c .before .row-of .ensures)
 
 pub mpe-class-spec : {M : Type 1} → statement M
 mpe-class-spec = tie.close (tie.spec row-of-requires column-requires returns)

@@ -1,7 +1,10 @@
 -- `mpe_sender::note_messages` meets its contract: velocity 0 refused, else the four messages.
 -- Assumes nothing.
+use mathlib.Core.Path.{_∙_}
+use mathlib.Core.List.{[], _∷_}
 use borrow.Author.Tests.{ne-eqb}
 use borrow.Author.Needs.{needs}
+use Rattle.ump.specs.Outcome.{allOf}
 use Rattle.ump.proofs.Auto.{auto}
 use Rattle.mpe_sender.specs.Writers.{noteMessages}
 use Rattle.mpe_sender.proofs.note_messages.Statement.{statement}
@@ -28,8 +31,17 @@ four-words-requires c κs = search needs
 
 returns-2 : tie.Need-returns-2
 unfolding noteMessages
-returns-2 c = let d = c .before .before .before .before .before in
-    rw (ne-eqb (d .before .args .velocity) 0 (d .if1 .left)) (cc)
+returns-2 c = let p = c .before .before in
+    let d = p .before .before .before in
+    rw (ne-eqb (d .before .args .velocity) 0 (d .if1 .left))
+    (c .four-words .ensures
+    ∙ (λ i.
+    allOf
+    (p .before .before .pitch-bend-message .ensures i
+    ∷ p .before .control-change .ensures i
+    ∷ p .pressure-message .ensures i
+    ∷ c .before .note-on-message .ensures i
+    ∷ [])))
 
 pub note-messages-spec : {M : Type 1} → statement M
 note-messages-spec =

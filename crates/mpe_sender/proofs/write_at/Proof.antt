@@ -2,7 +2,11 @@
 -- Assumes nothing.
 use native.Mathlib.Omega.{arith}
 use Prim.Native.Nat.{_+_}
+use mathlib.Core.Path.{_∙_}
+use mathlib.Core.List.{_++_}
+use lib.ListN.{drop}
 use borrow.Author.Needs.{needs}
+use Rattle.mpe_sender.specs.Writers.{sensitivityGroup, groupSize}
 use Rattle.mpe_sender.proofs.Groups.{channel-lt, semitones-le}
 use Rattle.mpe_sender.proofs.write_at.Statement.{statement}
 use Rattle.mpe_sender.proofs.write_at.Tie as tie
@@ -24,7 +28,11 @@ same-length : tie.Need-same-length
 same-length c = search needs
 
 returns : tie.Need-returns
-returns c = cc
+returns c =
+    let w = c .before .before in
+    let s = w .before .before .before .before .before in
+    w .write-group .ensures
+    ∙ (λ i. sensitivityGroup (w .before .before .channel-at .ensures i) (w .before .semitones-at .ensures i) ++ drop groupSize (s .args .out .now))
 
 pub write-at-spec : {M : Type 1} → statement M
 write-at-spec =
