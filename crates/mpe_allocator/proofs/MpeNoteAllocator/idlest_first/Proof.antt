@@ -1,9 +1,10 @@
 -- `mpe_allocator::MpeNoteAllocator::idlest_first` meets its contract: the definition, of what its calls ensure.
 -- Assumes nothing.
+use mathlib.Core.Path.{ap, _∙_}
 use borrow.Author.Needs.{needs}
 use Rattle.mpe_allocator.proofs.MpeNoteAllocator.idlest_first.Statement.{statement}
 use Rattle.mpe_allocator.proofs.MpeNoteAllocator.idlest_first.Tie as tie
-use Rattle.mpe_allocator.specs.Choice.{idlestFirst}
+use Rattle.mpe_allocator.specs.Choice.{smallerFirst, idlestFirst}
 
 mul-smaller-first : tie.Need-mul-smaller-first
 mul-smaller-first c = search needs
@@ -40,7 +41,10 @@ smaller-first-requires-2 c κs = search needs
 
 returns : tie.Need-returns
 unfolding idlestFirst
-returns c = cc
+returns c =
+    let o = c .before .before .before in
+    c .smaller-first2 .ensures
+    ∙ ap (smallerFirst _ _) (o .smaller-first .ensures ∙ ap (smallerFirst _ _) (o .before .wins-tie .ensures))
 
 pub idlest-first-spec : {M : Type 1} → statement M
 idlest-first-spec =

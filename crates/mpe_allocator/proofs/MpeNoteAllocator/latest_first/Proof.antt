@@ -1,9 +1,10 @@
 -- `mpe_allocator::MpeNoteAllocator::latest_first` meets its contract: the definition, of what its calls ensure.
 -- Assumes nothing.
+use mathlib.Core.Path.{ap, _∙_}
 use borrow.Author.Needs.{needs}
 use Rattle.mpe_allocator.proofs.MpeNoteAllocator.latest_first.Statement.{statement}
 use Rattle.mpe_allocator.proofs.MpeNoteAllocator.latest_first.Tie as tie
-use Rattle.mpe_allocator.specs.Choice.{latestFirst}
+use Rattle.mpe_allocator.specs.Choice.{smallerFirst, latestFirst}
 
 mul-smaller-first : tie.Need-mul-smaller-first
 mul-smaller-first c = search needs
@@ -25,7 +26,7 @@ smaller-first-requires c κs = search needs
 
 returns : tie.Need-returns
 unfolding latestFirst
-returns c = cc
+returns c = c .smaller-first .ensures ∙ ap (smallerFirst _ _) (c .before .wins-tie .ensures)
 
 pub latest-first-spec : {M : Type 1} → statement M
 latest-first-spec =

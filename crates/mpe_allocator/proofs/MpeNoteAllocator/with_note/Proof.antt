@@ -19,7 +19,7 @@ element-write-a-2 c = search needs
 
 returns : tie.Need-returns
 unfolding withNote
-returns c = cc
+returns c = rw (c .one-more .ensures)
 
 pub with-note-spec : {M : Type 1} → statement M
 with-note-spec =
