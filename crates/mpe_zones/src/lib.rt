@@ -3,7 +3,7 @@ ghost use mathlib.Core.Path.{_≡_};
 ghost use Prim.Native.Nat.{_<_, _*_, _+_};
 ghost use Rattle.mpe_layout.specs.Layout.{layoutMade, roleFound, lowestFound};
 ghost use Rattle.mpe_layout.specs.Reset.{maskFound};
-ghost use Rattle.mpe_zones.specs.Zones.{withMono, monoOf, slotOf, sensitivityAt, sensitivityPut, sensitivityOf, activated, activatedIf, roleIn, roleHeld, layoutIn, announcedTo, maskIn, isLowest, laidOut};
+ghost use Rattle.mpe_zones.specs.Zones.{withMono, monoOf, slotOf, sensitivityAt, sensitivityPut, sensitivityOf, activated, activatedIf, roleIn, roleHeld, layoutIn, maskIn, isLowest, laidOut};
 ghost use Rattle.mpe_zones.specs.Told.{saidByRpn, saidByParameter, saidByEvent, saidBy, told, announced, configuredBy, configured, announcing, sensitivityApplied, sensedAs, sensed, sensedEvent, inMode4, modeMessage, onMember, eventOf, modeSet, toldAs, resetIn, changesBy};
 use mpe_layout::FoundRole;
 use mpe_layout::LowestMember;
@@ -123,13 +123,6 @@ fn role_in(found: FoundRole) -> MpeRole
     }
 }
 
-// The role of a channel in the layout held.
-fn role_held(layout: MpeLayout, channel: u8) -> MpeRole
-    ensures { λ r. ⌜ r ≡ roleHeld layout channel ⌝ }
-{
-    role_in(layout.role(channel))
-}
-
 fn layout_in(layout: MpeLayout, made: MadeLayout) -> MpeLayout
     ensures { λ r. ⌜ r ≡ layoutIn layout (layoutMade made) ⌝ }
 {
@@ -137,13 +130,6 @@ fn layout_in(layout: MpeLayout, made: MadeLayout) -> MpeLayout
         MadeLayout::Made(l) => l,
         MadeLayout::OutOfRange => layout,
     }
-}
-
-// The layout held after an announcement.
-fn announced_to(layout: MpeLayout, zone: MpeZone, members: u8) -> MpeLayout
-    ensures { λ r. ⌜ r ≡ announcedTo layout zone members ⌝ }
-{
-    layout_in(layout, layout.with_mcm(zone, members))
 }
 
 // The channels of a mask, or none.
@@ -451,7 +437,7 @@ impl Zones {
             return self.with_event(MpeEvent::Ignored);
         }
         let before = self.layout;
-        let after = announced_to(before, zone, members);
+        let after = layout_in(before, before.with_mcm(zone, members));
         let mask = mask_in(announcement_reset(before, after, zone));
         let mut laid = self;
         laid.layout = after;
@@ -490,7 +476,7 @@ impl Zones {
         ensures { λ r. ⌜ r ≡ roleHeld (self .layout) channel ⌝ }
     {
         let layout = self.layout;
-        role_held(layout, channel)
+        role_in(layout.role(channel))
     }
 
     // A message by its channel's role, where no parameter event decides.

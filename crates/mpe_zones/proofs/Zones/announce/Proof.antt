@@ -5,7 +5,7 @@ use lib.Dec.{ltb}
 use mathlib.Core.Bool.{false}
 use mathlib.Core.Path.{_≡_, ap, _∙_}
 use Rattle.mpe_zones.specs.declared.MpeEvent.the-variants.{Layout}
-use Rattle.mpe_zones.specs.Zones.{withLayout, activatedIf, maskIn, announcementResets}
+use Rattle.mpe_zones.specs.Zones.{withLayout, activatedIf, layoutIn, maskIn, announcementResets}
 use Rattle.mpe_zones.specs.Told.{told, announced}
 use Rattle.ump.proofs.Auto.{auto}
 use Rattle.mpe_zones.proofs.Zones.announce.Statement.{statement}
@@ -18,8 +18,11 @@ returns : tie.Need-returns
 unfolding announced
 returns c = search (auto, c .with-event .ensures)
 
-announced-to-requires : tie.Need-announced-to-requires
-announced-to-requires c κs = search needs
+with-mcm-requires : tie.Need-with-mcm-requires
+with-mcm-requires c κs = search needs
+
+layout-in-requires : tie.Need-layout-in-requires
+layout-in-requires c κs = search needs
 
 announcement-reset-requires : tie.Need-announcement-reset-requires
 announcement-reset-requires c κs = search needs
@@ -33,13 +36,14 @@ activate-if-requires c κs = search needs
 returns-2 : tie.Need-returns-2
 unfolding announced
 returns-2 c =
-    let a = c .before .before .before .before .before .before .args in
+    let a = c .before .before .before .before .before .before .before .args in
     let z = a .self in
     let small : ltb 15 (a .members) ≡ false = search auto in
     let mask = c .before .mask-in .ensures ∙ ap maskIn (c .before .before .announcement-reset .ensures) in
+    let after = c .before .before .before .layout-in .ensures ∙ ap (layoutIn (z .layout)) (c .before .before .before .before .with-mcm .ensures) in
     rw small
     ((λ i. told (c .activate-if .ensures i) (Layout (mask i)))
-    ∙ ap (λ l. told (activatedIf (a .members) (withLayout z l) (a .zone)) (Layout (announcementResets (z .layout) l (a .zone)))) (c .before .before .before .announced-to .ensures))
+    ∙ ap (λ l. told (activatedIf (a .members) (withLayout z l) (a .zone)) (Layout (announcementResets (z .layout) l (a .zone)))) after)
 
 pub announce-spec : {M : Type 1} → statement M
 announce-spec =
@@ -47,7 +51,8 @@ announce-spec =
     (tie.spec
     with-event-requires
     returns
-    announced-to-requires
+    with-mcm-requires
+    layout-in-requires
     announcement-reset-requires
     mask-in-requires
     activate-if-requires

@@ -1,10 +1,10 @@
--- `mpe_zones::role_held` meets its contract.
+-- `mpe_zones::Zones::role` meets its contract.
 -- Assumes nothing.
 use mathlib.Core.Path.{ap, _∙_}
 use borrow.Author.Needs.{needs}
 use Rattle.mpe_zones.specs.Zones.{roleIn}
-use Rattle.mpe_zones.proofs.role_held.Statement.{statement}
-use Rattle.mpe_zones.proofs.role_held.Tie as tie
+use Rattle.mpe_zones.proofs.Zones.role.Statement.{statement}
+use Rattle.mpe_zones.proofs.Zones.role.Tie as tie
 
 role-requires : tie.Need-role-requires
 role-requires c κs = search needs
@@ -15,5 +15,5 @@ role-in-requires c κs = search needs
 returns : tie.Need-returns
 returns c = c .role-in .ensures ∙ ap roleIn (c .before .role .ensures)
 
-pub role-held-spec : {M : Type 1} → statement M
-role-held-spec = tie.close (tie.spec role-requires role-in-requires returns)
+pub role-spec : {M : Type 1} → statement M
+role-spec = tie.close (tie.spec role-requires role-in-requires returns)
