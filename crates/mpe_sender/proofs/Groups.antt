@@ -15,7 +15,7 @@ use Rattle.ump.specs.Outcome.{given, outOfRange, allOf, followedBy}
 use Rattle.ump.specs.Packet.{packetValue}
 use Rattle.ump.specs.Word.{controlChange, twoDataWord}
 use Rattle.ump.proofs.Cases.{by-test}
-use Rattle.parameters.specs.Writers.{numberMessages}
+use Rattle.parameter_messages.specs.Writers.{numberMessages}
 use Rattle.mpe_layout.specs.Layout.{managerOf}
 use Rattle.mpe_layout.specs.declared.MpeZone.{MpeZone}
 use Rattle.mpe_layout.specs.declared.MpeZone.the-variants.{Lower, Upper}

@@ -1,4 +1,3 @@
--- Definitions that the contracts cite: the classes of Appendix E, and the messages of a sender.
-pub mod Classes
+-- Definitions that the contracts cite: the messages of a sender.
 pub mod Writers
 pub mod Zone

@@ -9,7 +9,7 @@ use Rattle.ump.specs.Outcome.{Outcome, given, outOfRange, allOf, followedBy}
 use Rattle.ump.specs.Packet.{packetValue}
 use Rattle.ump.specs.Word.{wordOf, controlChange, twoDataWord, oneDataWord, bendWord}
 use Rattle.ump.specs.declared.controller.Rpn.{Rpn}
-use Rattle.parameters.specs.Writers.{selectMessages, changeMessage}
+use Rattle.parameter_messages.specs.Writers.{selectMessages, changeMessage}
 use Rattle.parameters.specs.declared.Parameter.the-variants.{Registered}
 use Rattle.parameters.specs.declared.ParameterChange.the-variants.{DataEntryMsb}
 use Rattle.mpe_layout.specs.Layout.{ofLegal, membersOf, managerOf, lowestOf}

@@ -1,4 +1,3 @@
 -- Definitions that the contracts cite.
 pub mod Apply
 pub mod State
-pub mod Writers

@@ -1,6 +1,9 @@
 // Items 30 to 39: parameter events, their messages, and a channel's parameter state.
 use crate::arguments;
 use crate::line::Line;
+use parameter_messages::change_message;
+use parameter_messages::select_messages;
+use parameter_messages::value_messages;
 use parameters::MaybeEvent;
 use parameters::Parameter;
 use parameters::ParameterChange;
@@ -8,9 +11,6 @@ use parameters::ParameterEvent;
 use parameters::ParameterState;
 use parameters::Reply;
 use parameters::Selection;
-use parameters::change_message;
-use parameters::select_messages;
-use parameters::value_messages;
 
 // The parameter state after an item, and the answer.
 pub(crate) struct ParameterTold {

@@ -2,12 +2,12 @@
 use crate::arguments;
 use crate::line::Line;
 use crate::out::Out;
+use mpe_class::MpeClass;
+use mpe_class::MpeMessage;
+use mpe_class::mpe_class;
 use mpe_layout::MpeLayout;
-use mpe_sender::MpeClass;
-use mpe_sender::MpeMessage;
 use mpe_sender::mcm_messages;
 use mpe_sender::mode_message;
-use mpe_sender::mpe_class;
 use mpe_sender::note_messages;
 use mpe_sender::sensitivity_messages;
 use mpe_sender::zone_sensitivity_messages;

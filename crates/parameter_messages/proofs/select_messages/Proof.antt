@@ -1,8 +1,8 @@
--- `parameters::select_messages` meets its contract.
+-- `parameter_messages::select_messages` meets its contract.
 -- Assumes nothing.
 use borrow.Author.Needs.{needs}
-use Rattle.parameters.proofs.select_messages.Statement.{statement}
-use Rattle.parameters.proofs.select_messages.Tie as tie
+use Rattle.parameter_messages.proofs.select_messages.Statement.{statement}
+use Rattle.parameter_messages.proofs.select_messages.Tie as tie
 use Rattle.ump.proofs.Auto.{auto}
 
 enum-known-parameter : tie.Need-enum-known-parameter

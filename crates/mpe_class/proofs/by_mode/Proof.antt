@@ -1,7 +1,7 @@
--- `mpe_sender::by_mode` meets its contract: by the mode.
+-- `mpe_class::by_mode` meets its contract: by the mode.
 -- Assumes nothing.
-use Rattle.mpe_sender.proofs.by_mode.Statement.{statement}
-use Rattle.mpe_sender.proofs.by_mode.Tie as tie
+use Rattle.mpe_class.proofs.by_mode.Statement.{statement}
+use Rattle.mpe_class.proofs.by_mode.Tie as tie
 
 returns : tie.Need-returns
 returns c = rw (c .if1 .taken)

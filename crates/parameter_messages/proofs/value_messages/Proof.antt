@@ -1,14 +1,14 @@
--- `parameters::value_messages` meets its contract.
+-- `parameter_messages::value_messages` meets its contract.
 -- Assumes nothing.
 use borrow.Author.Needs.{needs}
-use Rattle.parameters.proofs.value_messages.Statement.{statement}
-use Rattle.parameters.proofs.value_messages.Tie as tie
+use Rattle.parameter_messages.proofs.value_messages.Statement.{statement}
+use Rattle.parameter_messages.proofs.value_messages.Tie as tie
 use Rattle.ump.proofs.Auto.{auto}
 use mathlib.Core.Path.{_∙_}
 use mathlib.Core.List.{[], _∷_}
 use borrow.Author.Tests.{le-ltb}
 use Rattle.ump.specs.Outcome.{allOf, followedBy}
-use Rattle.parameters.specs.Writers.{valueMessages}
+use Rattle.parameter_messages.specs.Writers.{valueMessages}
 
 returns : tie.Need-returns
 unfolding valueMessages

@@ -1,10 +1,10 @@
--- `parameters::select_registered` meets its contract.
+-- `parameter_messages::select_registered` meets its contract.
 -- Assumes nothing.
 use mathlib.Core.Path.{ap, _∙_}
 use borrow.Author.Needs.{needs}
-use Rattle.parameters.specs.Writers.{numberMessages}
-use Rattle.parameters.proofs.select_registered.Statement.{statement}
-use Rattle.parameters.proofs.select_registered.Tie as tie
+use Rattle.parameter_messages.specs.Writers.{numberMessages}
+use Rattle.parameter_messages.proofs.select_registered.Statement.{statement}
+use Rattle.parameter_messages.proofs.select_registered.Tie as tie
 
 as-given-requires : tie.Need-as-given-requires
 as-given-requires c κs = search needs

@@ -1,11 +1,11 @@
 -- The classes of messages (M1-100, Appendix E, Table 5).
 use mathlib.Core.Bool.{Bool, true, false}
 use Rattle.ump.specs.Choice.{if_then_else_}
-use Rattle.mpe_sender.specs.declared.MpeMessage.{MpeMessage}
-use Rattle.mpe_sender.specs.declared.MpeMessage.the-variants.{Mcm, PitchBendSensitivity, PitchBend, ChannelPressure, Brightness, PolyPressure, AllSoundOff, ResetAllControllers, LocalControl, AllNotesOff, OmniOff, OmniOn, MonoModeOn, PolyModeOn, OtherControlChange, OtherRpn, Nrpn, ProgramChange, BankSelect, Note, System}
-use Rattle.mpe_sender.specs.declared.MpeClass.{MpeClass}
-use Rattle.mpe_sender.specs.declared.MpeClass.the-variants.{Mandatory as M, Optional as O, Prohibited as P}
-use Rattle.mpe_sender.specs.declared.Row.{Row}
+use Rattle.mpe_class.specs.declared.MpeMessage.{MpeMessage}
+use Rattle.mpe_class.specs.declared.MpeMessage.the-variants.{Mcm, PitchBendSensitivity, PitchBend, ChannelPressure, Brightness, PolyPressure, AllSoundOff, ResetAllControllers, LocalControl, AllNotesOff, OmniOff, OmniOn, MonoModeOn, PolyModeOn, OtherControlChange, OtherRpn, Nrpn, ProgramChange, BankSelect, Note, System}
+use Rattle.mpe_class.specs.declared.MpeClass.{MpeClass}
+use Rattle.mpe_class.specs.declared.MpeClass.the-variants.{Mandatory as M, Optional as O, Prohibited as P}
+use Rattle.mpe_class.specs.declared.Row.{Row}
 
 -- manager transmits, manager receives, member transmits, member receives
 abbrev pub row : MpeClass → MpeClass → MpeClass → MpeClass → Row

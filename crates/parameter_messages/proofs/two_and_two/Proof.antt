@@ -1,8 +1,8 @@
--- `parameters::two_and_two` meets its contract.
+-- `parameter_messages::two_and_two` meets its contract.
 -- Assumes nothing.
 use borrow.Author.Needs.{needs}
-use Rattle.parameters.proofs.two_and_two.Statement.{statement}
-use Rattle.parameters.proofs.two_and_two.Tie as tie
+use Rattle.parameter_messages.proofs.two_and_two.Statement.{statement}
+use Rattle.parameter_messages.proofs.two_and_two.Tie as tie
 use Rattle.ump.proofs.Auto.{auto}
 
 enum-known-first : tie.Need-enum-known-first

@@ -1,10 +1,10 @@
--- `mpe_sender::mpe_class` meets its contract: a column of the kind's row.
+-- `mpe_class::mpe_class` meets its contract: a column of the kind's row.
 -- Assumes nothing.
 use mathlib.Core.Path.{ap, _∙_}
 use borrow.Author.Needs.{needs}
-use Rattle.mpe_sender.specs.Classes.{columnOf}
-use Rattle.mpe_sender.proofs.mpe_class.Statement.{statement}
-use Rattle.mpe_sender.proofs.mpe_class.Tie as tie
+use Rattle.mpe_class.specs.Classes.{columnOf}
+use Rattle.mpe_class.proofs.mpe_class.Statement.{statement}
+use Rattle.mpe_class.proofs.mpe_class.Tie as tie
 
 row-of-requires : tie.Need-row-of-requires
 row-of-requires c κs = search needs

@@ -1,8 +1,8 @@
--- `parameters::change_message` meets its contract.
+-- `parameter_messages::change_message` meets its contract.
 -- Assumes nothing.
 use borrow.Author.Needs.{needs}
-use Rattle.parameters.proofs.change_message.Statement.{statement}
-use Rattle.parameters.proofs.change_message.Tie as tie
+use Rattle.parameter_messages.proofs.change_message.Statement.{statement}
+use Rattle.parameter_messages.proofs.change_message.Tie as tie
 use Rattle.ump.proofs.Auto.{auto}
 
 enum-known-change : tie.Need-enum-known-change

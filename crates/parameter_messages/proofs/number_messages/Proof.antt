@@ -1,11 +1,11 @@
--- `parameters::number_messages` meets its contract.
+-- `parameter_messages::number_messages` meets its contract.
 -- Assumes nothing.
 use mathlib.Core.Path.{_∙_}
 use mathlib.Core.List.{[], _∷_}
 use borrow.Author.Needs.{needs}
 use Rattle.ump.specs.Outcome.{allOf}
-use Rattle.parameters.proofs.number_messages.Statement.{statement}
-use Rattle.parameters.proofs.number_messages.Tie as tie
+use Rattle.parameter_messages.proofs.number_messages.Statement.{statement}
+use Rattle.parameter_messages.proofs.number_messages.Tie as tie
 
 control-change-requires : tie.Need-control-change-requires
 control-change-requires c κs = search needs

@@ -1,8 +1,8 @@
--- `mpe_sender::row_of` meets its contract: the row of each kind.
+-- `mpe_class::row_of` meets its contract: the row of each kind.
 -- Assumes nothing.
 use borrow.Author.Needs.{needs}
-use Rattle.mpe_sender.proofs.row_of.Statement.{statement}
-use Rattle.mpe_sender.proofs.row_of.Tie as tie
+use Rattle.mpe_class.proofs.row_of.Statement.{statement}
+use Rattle.mpe_class.proofs.row_of.Tie as tie
 
 enum-told : tie.Need-enum-told
 enum-told c = search needs

@@ -1,0 +1,2 @@
+-- Definitions that the contracts cite: the classes of Appendix E.
+pub mod Classes

@@ -1,0 +1,2 @@
+-- Definitions that the contracts cite: the messages that select a parameter and change it.
+pub mod Writers
