@@ -1,6 +1,6 @@
 -- `mpe_pitch::pitch_bend_value` meets its contract: the swing by `swing`, and the side of the center by the sign.
 -- Assumes nothing.
-use mathlib.Core.Path.{_≡_, refl}
+use mathlib.Core.Path.{_≡_, refl, ap, _∙_}
 use mathlib.Core.Bool.{true, false}
 use Prim.Native.Nat.{ℕ, _+_, _-_, _*_, min}
 use native.Mathlib.Omega.{arith}
@@ -56,7 +56,10 @@ cast-result c = search needs
 
 -- the swing by the arguments
 swing-is : (c : tie.After-swing) → c .swing .result ≡ min 8192 (nearest (8192 * natAbs (c .before .before .before .before .args .offset)) (rangeOf (c .before .before .before .before .args .sensitivity)))
-swing-is c = cc (toZ-ofZ w32 (c .before .before .before .before .args .offset) (c .before .before .before .before .fits .offset))
+swing-is c =
+    let s = c .before .before .before .before in
+    c .swing .ensures
+    ∙ (λ i. min 8192 (nearest (8192 * (c .before .unsigned-abs .ensures ∙ ap natAbs (toZ-ofZ w32 (s .args .offset) (s .fits .offset))) i) (c .before .before .before .units .ensures .0 i)))
 
 returns-2 : tie.Need-returns-2
 unfolding pitchBendValue

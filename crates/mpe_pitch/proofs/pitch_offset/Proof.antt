@@ -63,7 +63,8 @@ returns c =
     let cut = and-mask (a .value) 14 in
     let small : a .value % 2 ^ 14 < 8192 = omega (arith, cut) in
     let k = c .scale-over-8191 .result in
-    let e : k ≡ nearest (rangeOf (a .sensitivity) * (8192 - a .value % 2 ^ 14)) 8191 = cc cut in
+    let e : k ≡ nearest (rangeOf (a .sensitivity) * (8192 - a .value % 2 ^ 14)) 8191 =
+    c .scale-over-8191 .ensures .0 ∙ (λ i. nearest (c .before .before .units .ensures .0 i * (8192 - cut i)) 8191) in
     whole _ (a .value) (a .sensitivity) (minus-back k (omega arith) ∙ below (rangeOf (a .sensitivity)) (a .value % 2 ^ 14) k small e)
 
 returns-2 : tie.Need-returns-2
@@ -73,7 +74,8 @@ returns-2 c =
     let cut = and-mask (a .value) 14 in
     let large : 8192 ≤ a .value % 2 ^ 14 = omega (arith, cut) in
     let k = c .scale-over-81912 .result in
-    let e : k ≡ nearest (rangeOf (a .sensitivity) * (a .value % 2 ^ 14 - 8192)) 8191 = cc cut in
+    let e : k ≡ nearest (rangeOf (a .sensitivity) * (a .value % 2 ^ 14 - 8192)) 8191 =
+    c .scale-over-81912 .ensures .0 ∙ (λ i. nearest (c .before .before .units .ensures .0 i * (cut i - 8192)) 8191) in
     whole _ (a .value) (a .sensitivity) (toZ-pos w32 k (omega arith) ∙ above (rangeOf (a .sensitivity)) (a .value % 2 ^ 14) k large e)
 
 pub pitch-offset-spec : {M : Type 1} → statement M

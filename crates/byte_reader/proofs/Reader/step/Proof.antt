@@ -1,6 +1,8 @@
 -- `byte_reader::Reader::step` meets its contract.
 -- Assumes nothing.
+use mathlib.Core.Path.{ap, _∙_}
 use borrow.Author.Needs.{needs}
+use Rattle.byte_reader.specs.Reader.{classStep}
 use Rattle.byte_reader.proofs.Reader.step.Statement.{statement}
 use Rattle.byte_reader.proofs.Reader.step.Tie as tie
 
@@ -11,7 +13,9 @@ by-class-requires : tie.Need-by-class-requires
 by-class-requires c κs = search needs
 
 returns : tie.Need-returns
-returns c = cc
+returns c =
+    let a = c .before .before .args in
+    c .by-class .ensures ∙ ap (λ class. classStep (a .self) class (a .b)) (c .before .class-of .ensures)
 
 pub step-spec : {M : Type 1} → statement M
 step-spec = tie.close (tie.spec class-of-requires by-class-requires returns)
