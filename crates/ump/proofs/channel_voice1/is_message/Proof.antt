@@ -1,9 +1,10 @@
 -- `ump::channel_voice1::is_message` meets its contract.
 -- Assumes nothing.
+use mathlib.Core.Path.{_∙_}
 use borrow.Author.Needs.{needs}
 use Rattle.ump.proofs.channel_voice1.is_message.Statement.{statement}
 use Rattle.ump.proofs.channel_voice1.is_message.Tie as tie
-use Rattle.ump.specs.Word.{wordForm}
+use Rattle.ump.specs.Word.{formOf, wordForm}
 
 message-type-requires : tie.Need-message-type-requires
 message-type-requires c κs = search needs
@@ -25,7 +26,11 @@ has-form-requires c κs = search needs
 
 returns : tie.Need-returns
 unfolding wordForm
-returns c = cc
+returns c =
+    let o = c .before .before in
+    let m = o .before .before .before in
+    c .has-form .ensures
+    ∙ (λ i. formOf (m .message-type .ensures i) (o .before .before .bit .ensures i) (o .before .bit2 .ensures i) (o .opcode .ensures i) (c .before .second-data .ensures i))
 
 pub is-message-spec : {M : Type 1} → statement M
 is-message-spec =

@@ -1,6 +1,8 @@
 -- `ump::channel_voice1::Midi1ChannelPressure::try_new` meets its contract.
 -- Assumes nothing.
+use mathlib.Core.Path.{_∙_}
 use borrow.Author.Needs.{needs}
+use Rattle.ump.specs.Word.{oneDataWord}
 use Rattle.ump.proofs.channel_voice1.Midi1ChannelPressure.try_new.Statement.{statement}
 use Rattle.ump.proofs.channel_voice1.Midi1ChannelPressure.try_new.Tie as tie
 
@@ -14,7 +16,8 @@ one-data-requires : tie.Need-one-data-requires
 one-data-requires c κs = search needs
 
 returns : tie.Need-returns
-returns c = cc
+returns c =
+    c .one-data .ensures ∙ (λ i. oneDataWord 0xD (c .before .before .into-bits .ensures i) (c .before .into-bits2 .ensures i) (c .before .before .before .args .pressure))
 
 pub try-new-spec : {M : Type 1} → statement M
 try-new-spec =

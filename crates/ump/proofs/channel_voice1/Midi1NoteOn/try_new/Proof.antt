@@ -1,6 +1,8 @@
 -- `ump::channel_voice1::Midi1NoteOn::try_new` meets its contract.
 -- Assumes nothing.
+use mathlib.Core.Path.{_∙_}
 use borrow.Author.Needs.{needs}
+use Rattle.ump.specs.Word.{twoDataWord}
 use Rattle.ump.proofs.channel_voice1.Midi1NoteOn.try_new.Statement.{statement}
 use Rattle.ump.proofs.channel_voice1.Midi1NoteOn.try_new.Tie as tie
 
@@ -14,7 +16,9 @@ two-data-requires : tie.Need-two-data-requires
 two-data-requires c κs = search needs
 
 returns : tie.Need-returns
-returns c = cc
+returns c =
+    let a = c .before .before .before .args in
+    c .two-data .ensures ∙ (λ i. twoDataWord 0x9 (c .before .before .into-bits .ensures i) (c .before .into-bits2 .ensures i) (a .note) (a .velocity))
 
 pub try-new-spec : {M : Type 1} → statement M
 try-new-spec =

@@ -1,6 +1,8 @@
 -- `ump::channel_voice1::Midi1PitchBend::try_new` meets its contract.
 -- Assumes nothing.
+use mathlib.Core.Path.{_∙_}
 use borrow.Author.Needs.{needs}
+use Rattle.ump.specs.Word.{bendWord}
 use Rattle.ump.proofs.channel_voice1.Midi1PitchBend.try_new.Statement.{statement}
 use Rattle.ump.proofs.channel_voice1.Midi1PitchBend.try_new.Tie as tie
 
@@ -14,7 +16,8 @@ bend-requires : tie.Need-bend-requires
 bend-requires c κs = search needs
 
 returns : tie.Need-returns
-returns c = cc
+returns c =
+    c .bend .ensures ∙ (λ i. bendWord (c .before .before .into-bits .ensures i) (c .before .into-bits2 .ensures i) (c .before .before .before .args .value))
 
 pub try-new-spec : {M : Type 1} → statement M
 try-new-spec = tie.close (tie.spec into-bits-requires into-bits-requires-2 bend-requires returns)

@@ -8,7 +8,7 @@ as-given-requires : tie.Need-as-given-requires
 as-given-requires c κs = search needs
 
 returns : tie.Need-returns
-returns c = cc
+returns c = rw (c .before .before .as-given .ensures)
 
 pub into-parts-spec : {M : Type 1} → statement M
 into-parts-spec = tie.close (tie.spec as-given-requires returns)
