@@ -3,7 +3,6 @@
 use borrow.Author.Needs.{needs}
 use Rattle.mpe_zones.proofs.is_lowest.Statement.{statement}
 use Rattle.mpe_zones.proofs.is_lowest.Tie as tie
-use Rattle.ump.proofs.Auto.{auto}
 
 enum-known-found : tie.Need-enum-known-found
 enum-known-found c = search needs
@@ -15,7 +14,7 @@ enum-told-2 : tie.Need-enum-told-2
 enum-told-2 c = search needs
 
 returns : tie.Need-returns
-returns c = search (auto, c .before .found .given .1)
+returns c = rw (c .before .found .given .1)
 
 returns-2 : tie.Need-returns-2
 returns-2 c = search needs

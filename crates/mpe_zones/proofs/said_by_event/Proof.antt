@@ -3,7 +3,6 @@
 use borrow.Author.Needs.{needs}
 use Rattle.mpe_zones.proofs.said_by_event.Statement.{statement}
 use Rattle.mpe_zones.proofs.said_by_event.Tie as tie
-use Rattle.ump.proofs.Auto.{auto}
 
 enum-told : tie.Need-enum-told
 enum-told c = search needs
@@ -18,7 +17,7 @@ returns : tie.Need-returns
 returns c = search needs
 
 returns-2 : tie.Need-returns-2
-returns-2 c = search (auto, c .before .before .parameter .given .1, c .said-by-parameter .ensures)
+returns-2 c = rw (c .before .before .parameter .given .1) (c .said-by-parameter .ensures)
 
 pub said-by-event-spec : {M : Type 1} → statement M
 said-by-event-spec =

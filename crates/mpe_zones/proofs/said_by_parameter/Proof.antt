@@ -3,7 +3,6 @@
 use borrow.Author.Needs.{needs}
 use Rattle.mpe_zones.proofs.said_by_parameter.Statement.{statement}
 use Rattle.mpe_zones.proofs.said_by_parameter.Tie as tie
-use Rattle.ump.proofs.Auto.{auto}
 
 enum-known-parameter : tie.Need-enum-known-parameter
 enum-known-parameter c = search needs
@@ -15,7 +14,7 @@ enum-told : tie.Need-enum-told
 enum-told c = search needs
 
 returns : tie.Need-returns
-returns c = search (auto, c .before .before .parameter .given .1, c .said-by-rpn .ensures)
+returns c = rw (c .before .before .parameter .given .1) (c .said-by-rpn .ensures)
 
 returns-2 : tie.Need-returns-2
 returns-2 c = search needs

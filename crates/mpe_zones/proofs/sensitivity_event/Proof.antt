@@ -1,7 +1,6 @@
 -- `mpe_zones::sensitivity_event` meets its contract.
 -- Assumes nothing.
 use borrow.Author.Needs.{needs}
-use Rattle.ump.proofs.Auto.{auto}
 use Rattle.mpe_zones.proofs.sensitivity_event.Statement.{statement}
 use Rattle.mpe_zones.proofs.sensitivity_event.Tie as tie
 
@@ -18,10 +17,10 @@ returns : tie.Need-returns
 returns c = search needs
 
 returns-2 : tie.Need-returns-2
-returns-2 c = search (auto, c .before .role .given .1)
+returns-2 c = rw (c .before .role .given .1)
 
 returns-3 : tie.Need-returns-3
-returns-3 c = search (auto, c .before .role2 .given .1)
+returns-3 c = rw (c .before .role2 .given .1)
 
 pub sensitivity-event-spec : {M : Type 1} → statement M
 sensitivity-event-spec =

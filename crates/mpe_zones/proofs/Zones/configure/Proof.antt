@@ -1,7 +1,6 @@
 -- `mpe_zones::Zones::configure` meets its contract.
 -- Assumes nothing.
 use borrow.Author.Needs.{needs}
-use Rattle.ump.proofs.Auto.{auto}
 use Rattle.mpe_zones.proofs.Zones.configure.Statement.{statement}
 use Rattle.mpe_zones.proofs.Zones.configure.Tie as tie
 
@@ -30,16 +29,16 @@ with-event-requires-3 : tie.Need-with-event-requires-3
 with-event-requires-3 c κs = search needs
 
 returns : tie.Need-returns
-returns c = search (auto, c .before .before .change .given .1, c .announce .ensures)
+returns c = rw (c .before .before .change .given .1) (c .announce .ensures)
 
 returns-2 : tie.Need-returns-2
-returns-2 c = search (auto, c .before .enum-told .given .1, c .with-event .ensures)
+returns-2 c = rw (c .before .enum-told .given .1) (c .with-event .ensures)
 
 returns-3 : tie.Need-returns-3
-returns-3 c = search (auto, c .before .enum-told2 .given .1, c .with-event2 .ensures)
+returns-3 c = rw (c .before .enum-told2 .given .1) (c .with-event2 .ensures)
 
 returns-4 : tie.Need-returns-4
-returns-4 c = search (auto, c .before .enum-told3 .given .1, c .with-event3 .ensures)
+returns-4 c = rw (c .before .enum-told3 .given .1) (c .with-event3 .ensures)
 
 pub configure-spec : {M : Type 1} → statement M
 configure-spec =

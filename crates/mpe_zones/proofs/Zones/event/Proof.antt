@@ -4,7 +4,6 @@ use mathlib.Core.Path.{ap, _∙_}
 use borrow.Author.Needs.{needs}
 use Rattle.mpe_zones.specs.Zones.{isLowest}
 use Rattle.mpe_zones.proofs.Members.{on-member}
-use Rattle.ump.proofs.Auto.{auto}
 use Rattle.mpe_zones.proofs.Zones.event.Statement.{statement}
 use Rattle.mpe_zones.proofs.Zones.event.Tie as tie
 
@@ -33,7 +32,7 @@ returns : tie.Need-returns
 returns c = search needs
 
 returns-2 : tie.Need-returns-2
-returns-2 c = search (auto, c .before .role .given .1)
+returns-2 c = rw (c .before .role .given .1)
 
 returns-3 : tie.Need-returns-3
 returns-3 c =

@@ -1,7 +1,8 @@
 -- `mpe_zones::Zones::tell` meets its contract.
 -- Assumes nothing.
+use mathlib.Core.Path.{ap, sym, _∙_}
 use borrow.Author.Needs.{needs}
-use Rattle.ump.proofs.Auto.{auto}
+use Rattle.mpe_zones.specs.Told.{toldAs}
 use Rattle.mpe_zones.proofs.Zones.tell.Statement.{statement}
 use Rattle.mpe_zones.proofs.Zones.tell.Tie as tie
 
@@ -27,13 +28,22 @@ sense-requires : tie.Need-sense-requires
 sense-requires c κs = search needs
 
 returns : tie.Need-returns
-returns c = search (auto, ← c .before .before .before .said-by .ensures, c .before .enum-told .given .1, c .plain .ensures)
+returns c =
+    let a = c .before .before .before .before .args in
+    c .plain .ensures
+    ∙ ap (λ s. toldAs (a .self) (a .channel) (a .role) (a .plain) s (a .first)) (sym (c .before .enum-told .given .1) ∙ c .before .before .before .said-by .ensures)
 
 returns-2 : tie.Need-returns-2
-returns-2 c = search (auto, ← c .before .before .before .before .said-by .ensures, c .before .before .said .given .1, c .mcm .ensures)
+returns-2 c =
+    let a = c .before .before .before .before .before .args in
+    c .mcm .ensures
+    ∙ ap (λ s. toldAs (a .self) (a .channel) (a .role) (a .plain) s (a .first)) (sym (c .before .before .said .given .1) ∙ c .before .before .before .before .said-by .ensures)
 
 returns-3 : tie.Need-returns-3
-returns-3 c = search (auto, ← c .before .before .before .before .said-by .ensures, c .before .before .said2 .given .1, c .sense .ensures)
+returns-3 c =
+    let a = c .before .before .before .before .before .args in
+    c .sense .ensures
+    ∙ ap (λ s. toldAs (a .self) (a .channel) (a .role) (a .plain) s (a .first)) (sym (c .before .before .said2 .given .1) ∙ c .before .before .before .before .said-by .ensures)
 
 pub tell-spec : {M : Type 1} → statement M
 tell-spec =

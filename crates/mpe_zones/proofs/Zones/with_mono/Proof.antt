@@ -1,7 +1,6 @@
 -- `mpe_zones::Zones::with_mono` meets its contract.
 -- Assumes nothing.
 use borrow.Author.Needs.{needs}
-use Rattle.ump.proofs.Auto.{auto}
 use Rattle.mpe_zones.proofs.Zones.with_mono.Statement.{statement}
 use Rattle.mpe_zones.proofs.Zones.with_mono.Tie as tie
 
@@ -12,10 +11,10 @@ enum-told-2 : tie.Need-enum-told-2
 enum-told-2 c = search needs
 
 returns : tie.Need-returns
-returns c = search (auto, c .enum-told .given .1)
+returns c = rw (c .enum-told .given .1)
 
 returns-2 : tie.Need-returns-2
-returns-2 c = search (auto, c .enum-told2 .given .1)
+returns-2 c = rw (c .enum-told2 .given .1)
 
 pub with-mono-spec : {M : Type 1} → statement M
 with-mono-spec = tie.close (tie.spec enum-told enum-told-2 returns returns-2)
