@@ -1,7 +1,6 @@
 -- `mpe_sender::two_and_one` meets its contract: both are given, or the first refusal.
 -- Assumes nothing.
 use borrow.Author.Needs.{needs}
-use Rattle.ump.proofs.Auto.{auto}
 use Rattle.mpe_sender.proofs.two_and_one.Statement.{statement}
 use Rattle.mpe_sender.proofs.two_and_one.Tie as tie
 
@@ -24,7 +23,7 @@ returns-2 : tie.Need-returns-2
 returns-2 c = search needs
 
 returns-3 : tie.Need-returns-3
-returns-3 c = search (auto, c .before .second .given .1, c .before .before .before .before .first .given .1)
+returns-3 c = rw (c .before .second .given .1, c .before .before .before .before .first .given .1)
 
 pub two-and-one-spec : {M : Type 1} → statement M
 two-and-one-spec =

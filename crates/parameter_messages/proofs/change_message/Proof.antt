@@ -3,7 +3,6 @@
 use borrow.Author.Needs.{needs}
 use Rattle.parameter_messages.proofs.change_message.Statement.{statement}
 use Rattle.parameter_messages.proofs.change_message.Tie as tie
-use Rattle.ump.proofs.Auto.{auto}
 
 enum-known-change : tie.Need-enum-known-change
 enum-known-change c = search needs
@@ -30,16 +29,16 @@ control-change-requires-4 : tie.Need-control-change-requires-4
 control-change-requires-4 c κs = search needs
 
 returns : tie.Need-returns
-returns c = search (auto, c .before .before .change .given .1, c .control-change .ensures)
+returns c = rw (c .before .before .change .given .1) (c .control-change .ensures)
 
 returns-2 : tie.Need-returns-2
-returns-2 c = search (auto, c .before .before .change2 .given .1, c .control-change2 .ensures)
+returns-2 c = rw (c .before .before .change2 .given .1) (c .control-change2 .ensures)
 
 returns-3 : tie.Need-returns-3
-returns-3 c = search (auto, c .before .enum-told .given .1, c .control-change3 .ensures)
+returns-3 c = rw (c .before .enum-told .given .1) (c .control-change3 .ensures)
 
 returns-4 : tie.Need-returns-4
-returns-4 c = search (auto, c .before .enum-told2 .given .1, c .control-change4 .ensures)
+returns-4 c = rw (c .before .enum-told2 .given .1) (c .control-change4 .ensures)
 
 pub change-message-spec : {M : Type 1} → statement M
 change-message-spec =

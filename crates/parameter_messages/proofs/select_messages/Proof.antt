@@ -3,7 +3,6 @@
 use borrow.Author.Needs.{needs}
 use Rattle.parameter_messages.proofs.select_messages.Statement.{statement}
 use Rattle.parameter_messages.proofs.select_messages.Tie as tie
-use Rattle.ump.proofs.Auto.{auto}
 
 enum-known-parameter : tie.Need-enum-known-parameter
 enum-known-parameter c = search needs
@@ -18,10 +17,10 @@ number-messages-requires : tie.Need-number-messages-requires
 number-messages-requires c κs = search needs
 
 returns : tie.Need-returns
-returns c = search (auto, c .before .before .parameter .given .1, c .select-registered .ensures)
+returns c = rw (c .before .before .parameter .given .1) (c .select-registered .ensures)
 
 returns-2 : tie.Need-returns-2
-returns-2 c = search (auto, c .before .before .parameter2 .given .1, c .number-messages .ensures)
+returns-2 c = rw (c .before .before .parameter2 .given .1) (c .number-messages .ensures)
 
 pub select-messages-spec : {M : Type 1} → statement M
 select-messages-spec =

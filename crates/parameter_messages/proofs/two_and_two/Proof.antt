@@ -3,7 +3,6 @@
 use borrow.Author.Needs.{needs}
 use Rattle.parameter_messages.proofs.two_and_two.Statement.{statement}
 use Rattle.parameter_messages.proofs.two_and_two.Tie as tie
-use Rattle.ump.proofs.Auto.{auto}
 
 enum-known-first : tie.Need-enum-known-first
 enum-known-first c = search needs
@@ -24,7 +23,7 @@ returns-2 : tie.Need-returns-2
 returns-2 c = search needs
 
 returns-3 : tie.Need-returns-3
-returns-3 c = search (auto, c .before .second .given .1, c .before .before .before .before .first .given .1)
+returns-3 c = rw (c .before .second .given .1, c .before .before .before .before .first .given .1)
 
 pub two-and-two-spec : {M : Type 1} → statement M
 two-and-two-spec =

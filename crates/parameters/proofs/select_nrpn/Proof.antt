@@ -3,16 +3,15 @@
 use borrow.Author.Needs.{needs}
 use Rattle.parameters.proofs.select_nrpn.Statement.{statement}
 use Rattle.parameters.proofs.select_nrpn.Tie as tie
-use Rattle.ump.proofs.Auto.{auto}
 
 is-selecting-requires : tie.Need-is-selecting-requires
 is-selecting-requires c κs = search needs
 
 returns : tie.Need-returns
-returns c = search (auto, c .before .before .if1 .taken, ← c .before .is-selecting .ensures, c .if2 .taken)
+returns c = rw (c .before .before .if1 .taken, ← c .before .is-selecting .ensures, c .if2 .taken)
 
 returns-2 : tie.Need-returns-2
-returns-2 c = search (auto, c .before .before .if1 .taken, ← c .before .is-selecting .ensures, c .if2 .left)
+returns-2 c = rw (c .before .before .if1 .taken, ← c .before .is-selecting .ensures, c .if2 .left)
 
 returns-3 : tie.Need-returns-3
 returns-3 c = search needs

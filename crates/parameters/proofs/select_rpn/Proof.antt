@@ -3,7 +3,6 @@
 use borrow.Author.Needs.{needs}
 use Rattle.parameters.proofs.select_rpn.Statement.{statement}
 use Rattle.parameters.proofs.select_rpn.Tie as tie
-use Rattle.ump.proofs.Auto.{auto}
 
 is-selecting-requires : tie.Need-is-selecting-requires
 is-selecting-requires c κs = search needs
@@ -12,10 +11,10 @@ from-parts-requires : tie.Need-from-parts-requires
 from-parts-requires c κs = search needs
 
 returns : tie.Need-returns
-returns c = search (auto, c .before .before .before .if1 .taken, ← c .before .before .is-selecting .ensures, c .before .if2 .taken, c .from-parts .ensures)
+returns c = rw (c .before .before .before .if1 .taken, ← c .before .before .is-selecting .ensures, c .before .if2 .taken, c .from-parts .ensures)
 
 returns-2 : tie.Need-returns-2
-returns-2 c = search (auto, c .before .before .if1 .taken, ← c .before .is-selecting .ensures, c .if2 .left)
+returns-2 c = rw (c .before .before .if1 .taken, ← c .before .is-selecting .ensures, c .if2 .left)
 
 returns-3 : tie.Need-returns-3
 returns-3 c = search needs

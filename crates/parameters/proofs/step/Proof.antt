@@ -3,7 +3,6 @@
 use borrow.Author.Needs.{needs}
 use Rattle.parameters.proofs.step.Statement.{statement}
 use Rattle.parameters.proofs.step.Tie as tie
-use Rattle.ump.proofs.Auto.{auto}
 use mathlib.Core.Path.{ap, _∙_}
 use Rattle.parameters.specs.Apply.{stepNumbered}
 
@@ -29,7 +28,7 @@ returns c =
     (c .step-numbered .ensures ∙ ap (λ n. stepNumbered (n .msb) (n .lsb) (a .up) (a .value)) (c .before .into-parts .ensures))
 
 returns-2 : tie.Need-returns-2
-returns-2 c = search (auto, c .before .enum-told .given .1, c .step14 .ensures)
+returns-2 c = rw (c .before .enum-told .given .1) (c .step14 .ensures)
 
 pub step-spec : {M : Type 1} → statement M
 step-spec =

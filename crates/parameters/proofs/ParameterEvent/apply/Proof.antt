@@ -3,7 +3,6 @@
 use borrow.Author.Needs.{needs}
 use Rattle.parameters.proofs.ParameterEvent.apply.Statement.{statement}
 use Rattle.parameters.proofs.ParameterEvent.apply.Tie as tie
-use Rattle.ump.proofs.Auto.{auto}
 
 enum-known-change : tie.Need-enum-known-change
 enum-known-change c = search needs
@@ -39,16 +38,16 @@ step-requires-2 : tie.Need-step-requires-2
 step-requires-2 c κs = search needs
 
 returns : tie.Need-returns
-returns c = search (auto, c .before .change .given .1)
+returns c = rw (c .before .change .given .1)
 
 returns-2 : tie.Need-returns-2
-returns-2 c = search (auto, c .before .change2 .given .1)
+returns-2 c = rw (c .before .change2 .given .1)
 
 returns-3 : tie.Need-returns-3
-returns-3 c = search (auto, c .before .enum-told .given .1, c .step .ensures)
+returns-3 c = rw (c .before .enum-told .given .1) (c .step .ensures)
 
 returns-4 : tie.Need-returns-4
-returns-4 c = search (auto, c .before .enum-told2 .given .1, c .step2 .ensures)
+returns-4 c = rw (c .before .enum-told2 .given .1) (c .step2 .ensures)
 
 pub apply-spec : {M : Type 1} → statement M
 apply-spec =

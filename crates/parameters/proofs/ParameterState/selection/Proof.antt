@@ -3,7 +3,6 @@
 use borrow.Author.Needs.{needs}
 use Rattle.parameters.proofs.ParameterState.selection.Statement.{statement}
 use Rattle.parameters.proofs.ParameterState.selection.Tie as tie
-use Rattle.ump.proofs.Auto.{auto}
 use Rattle.parameters.specs.State.{selectionOf}
 
 select-nrpn-requires : tie.Need-select-nrpn-requires
@@ -11,14 +10,14 @@ select-nrpn-requires c κs = search needs
 
 returns : tie.Need-returns
 unfolding selectionOf
-returns c = search (auto, c .before .before .if1 .taken, c .select-nrpn .ensures)
+returns c = rw (c .before .before .if1 .taken) (c .select-nrpn .ensures)
 
 select-rpn-requires : tie.Need-select-rpn-requires
 select-rpn-requires c κs = search needs
 
 returns-2 : tie.Need-returns-2
 unfolding selectionOf
-returns-2 c = search (auto, c .before .before .if1 .left, c .select-rpn .ensures)
+returns-2 c = rw (c .before .before .if1 .left) (c .select-rpn .ensures)
 
 pub selection-spec : {M : Type 1} → statement M
 selection-spec = tie.close (tie.spec select-nrpn-requires returns select-rpn-requires returns-2)

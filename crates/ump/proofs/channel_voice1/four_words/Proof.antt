@@ -3,7 +3,6 @@
 use borrow.Author.Needs.{needs}
 use Rattle.ump.proofs.channel_voice1.four_words.Statement.{statement}
 use Rattle.ump.proofs.channel_voice1.four_words.Tie as tie
-use Rattle.ump.proofs.Auto.{auto}
 
 enum-known-first : tie.Need-enum-known-first
 enum-known-first c = search needs
@@ -42,7 +41,7 @@ returns-4 : tie.Need-returns-4
 returns-4 c = search needs
 
 returns-5 : tie.Need-returns-5
-returns-5 c = search (auto, c .before .fourth .given .1, c .before .before .before .before .third .given .1, c .before .before .before .before .before .before .before .second .given .1, c .before .before .before .before .before .before .before .before .before .before .first .given .1)
+returns-5 c = rw (c .before .fourth .given .1, c .before .before .before .before .third .given .1, c .before .before .before .before .before .before .before .second .given .1, c .before .before .before .before .before .before .before .before .before .before .first .given .1)
 
 pub four-words-spec : {M : Type 1} → statement M
 four-words-spec =

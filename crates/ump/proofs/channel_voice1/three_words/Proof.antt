@@ -3,7 +3,6 @@
 use borrow.Author.Needs.{needs}
 use Rattle.ump.proofs.channel_voice1.three_words.Statement.{statement}
 use Rattle.ump.proofs.channel_voice1.three_words.Tie as tie
-use Rattle.ump.proofs.Auto.{auto}
 
 enum-known-first : tie.Need-enum-known-first
 enum-known-first c = search needs
@@ -33,7 +32,7 @@ returns-3 : tie.Need-returns-3
 returns-3 c = search needs
 
 returns-4 : tie.Need-returns-4
-returns-4 c = search (auto, c .before .third .given .1, c .before .before .before .before .second .given .1, c .before .before .before .before .before .before .before .first .given .1)
+returns-4 c = rw (c .before .third .given .1, c .before .before .before .before .second .given .1, c .before .before .before .before .before .before .before .first .given .1)
 
 pub three-words-spec : {M : Type 1} → statement M
 three-words-spec =
