@@ -95,14 +95,16 @@ fn changed(end: End, operation: u8, c: u8, on: bool) -> End {
 // Answers the item, on an end.
 pub(crate) fn answer(end: End, item: &[u8; 80]) -> EndTold {
     let operation = item[0];
+    let first = item[1];
+    let second = item[2];
     if operation == 0x01 {
-        return stepped(step(end, item[1]));
+        return stepped(step(end, first));
     }
     if operation == 0x02 {
-        return stepped(byte_of(end, item[1]));
+        return stepped(byte_of(end, first));
     }
     if operation == 0x03 {
-        return set_layout(end, item[1], item[2]);
+        return set_layout(end, first, second);
     }
     if operation == 0x06 {
         return EndTold {
@@ -113,11 +115,11 @@ pub(crate) fn answer(end: End, item: &[u8; 80]) -> EndTold {
     if operation == 0x07 {
         return EndTold {
             end,
-            line: channel(end, item[1]),
+            line: channel(end, first),
         };
     }
     EndTold {
-        end: changed(end, operation, item[1], item[2] != 0),
+        end: changed(end, operation, first, second != 0),
         line: Line::new(),
     }
 }

@@ -54,11 +54,12 @@ fn within_limit(bytes: &[u8; 80]) -> bool {
     if operation == 0x53 {
         return bytes[6] <= 64;
     }
+    let length = arguments::two(bytes[73], bytes[74]);
     if operation == 0x70 {
-        return arguments::two(bytes[73], bytes[74]) <= 1024;
+        return length <= 1024;
     }
     if operation == 0x71 {
-        return arguments::two(bytes[73], bytes[74]) <= 256;
+        return length <= 256;
     }
     true
 }

@@ -61,20 +61,22 @@ pub(crate) fn answer(item: &[u8; 80]) -> Line {
         lower: item[1],
         upper: item[2],
     };
+    let argument = item[3];
+    let zone = arguments::zone(argument);
     if operation == 0x10 {
-        return made(MpeLayout::new(item[1], item[2]));
+        return made(MpeLayout::new(layout.lower, layout.upper));
     }
     if operation == 0x11 {
-        return made(layout.with_mcm(arguments::zone(item[3]), item[4]));
+        return made(layout.with_mcm(zone, item[4]));
     }
     if operation == 0x12 {
-        return role(layout.role(item[3]));
+        return role(layout.role(argument));
     }
     if operation == 0x13 {
-        return lowest(layout.lowest_member(arguments::zone(item[3])));
+        return lowest(layout.lowest_member(zone));
     }
     if operation == 0x14 {
-        return members(layout.members(arguments::zone(item[3])));
+        return members(layout.members(zone));
     }
     activity(layout.is_active())
 }

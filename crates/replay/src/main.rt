@@ -20,13 +20,18 @@ use libc::STDERR_FILENO;
 use libc::STDIN_FILENO;
 use run::Run;
 
+// The run where standard input cannot be read.
+fn unreadable(run: Run) -> Run {
+    io::write_all(STDERR_FILENO, b"replay: standard input cannot be read\n");
+    run.stopped()
+}
+
 // Reads once and answers the items that came whole. Keeping the loop out of it keeps the buffer out of the loop.
 fn read_some(run: Run, item: &mut [u8; 80], buffer: &mut [u8; 4096]) -> Run {
     let mut text = io::buffer();
     let got = libc::read(STDIN_FILENO, &mut text);
     if got < 0 {
-        io::write_all(STDERR_FILENO, b"replay: standard input cannot be read\n");
-        return run.stopped();
+        return unreadable(run);
     }
     if got == 0 {
         return run.ended(buffer);

@@ -79,16 +79,21 @@ impl Out {
         self.text(buffer, &digits[..k])
     }
 
+    // A mark and a number.
+    fn marked(self, buffer: &mut [u8; 4096], mark: u8, n: u64) -> Out {
+        self.byte(buffer, mark).number(buffer, n)
+    }
+
     // A cell of a line.
     fn cell(self, buffer: &mut [u8; 4096], mark: u8, value: u32) -> Out {
         if mark == NUMBER {
             return self.number(buffer, value as u64);
         }
         if mark == MINUS {
-            return self.byte(buffer, b'-').number(buffer, value as u64);
+            return self.marked(buffer, b'-', value as u64);
         }
         if mark == REFUSAL {
-            return self.byte(buffer, b'!').number(buffer, value as u64);
+            return self.marked(buffer, b'!', value as u64);
         }
         self.byte(buffer, mark)
     }
@@ -119,16 +124,15 @@ impl Out {
         match answer {
             Written::Count(count) => self.number(buffer, count as u64),
             Written::OutOfRange => self.line(buffer, Line::out_of_range()),
-            Written::TooSmall { needed, got } => self.text(buffer, b"!2 ")
-                .number(buffer, needed as u64)
-                .byte(buffer, b' ')
-                .number(buffer, got as u64),
+            Written::TooSmall { needed, got } => self.marked(buffer, b'!', 2)
+                .marked(buffer, b' ', needed as u64)
+                .marked(buffer, b' ', got as u64),
         }
     }
 
     // A space and a word.
     fn word(self, buffer: &mut [u8; 4096], word: u32) -> Out {
-        self.byte(buffer, b' ').number(buffer, word as u64)
+        self.marked(buffer, b' ', word as u64)
     }
 
     // A colon and the words of a buffer, a space before each.

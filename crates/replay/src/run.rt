@@ -15,6 +15,22 @@ pub(crate) struct Run {
     pub(crate) going: bool,
 }
 
+// An item of this operation has a buffer of its own.
+fn has_buffer(operation: u8) -> bool {
+    match operation {
+        0x53 | 0x70 | 0x71 => true,
+        _ => false,
+    }
+}
+
+// Answers an item that has a buffer of its own.
+fn buffer_answer(out: Out, item: &[u8; 80], buffer: &mut [u8; 4096]) -> Out {
+    if item[0] == 0x53 {
+        return sender_items::zone_answer(out, item, buffer);
+    }
+    restatement_items::answer(out, item, buffer)
+}
+
 impl Run {
     pub(crate) fn new() -> Run {
         Run {
@@ -53,14 +69,18 @@ impl Run {
         }
     }
 
+    // The run with a line's end after what was written.
+    fn with_line(self, out: Out, buffer: &mut [u8; 4096]) -> Run {
+        let mut run = self;
+        let ended = out.byte(buffer, b'\n');
+        run.out = ended;
+        run
+    }
+
     // The run at what cannot be read.
     fn broken(self, buffer: &mut [u8; 4096]) -> Run {
         let out = self.out;
-        let mut run = self;
-        let last = out.text(buffer, b"?\n");
-        run.out = last;
-        run.going = false;
-        run
+        self.with_line(out.byte(buffer, b'?'), buffer).stopped()
     }
 
     // The run at the input's end.
@@ -72,24 +92,9 @@ impl Run {
         self.broken(buffer)
     }
 
-    // The run with a line's end after what was written.
-    fn with_line(self, out: Out, buffer: &mut [u8; 4096]) -> Run {
-        let mut run = self;
-        let ended = out.byte(buffer, b'\n');
-        run.out = ended;
-        run
-    }
-
-    // Answers a whole item.
-    fn answer(self, item: &[u8; 80], buffer: &mut [u8; 4096]) -> Run {
+    // Answers an item by a call on the states.
+    fn answer_call(self, item: &[u8; 80], buffer: &mut [u8; 4096]) -> Run {
         let out = self.out;
-        let operation = item[0];
-        if operation == 0x53 {
-            return self.with_line(sender_items::zone_answer(out, item, buffer), buffer);
-        }
-        if operation == 0x70 || operation == 0x71 {
-            return self.with_line(restatement_items::answer(out, item, buffer), buffer);
-        }
         let states = self.states;
         let answered = states.answer(item);
         let next = answered.states;
@@ -97,6 +102,15 @@ impl Run {
         let mut run = self;
         run.states = next;
         run.with_line(out.line(buffer, line), buffer)
+    }
+
+    // Answers a whole item.
+    fn answer(self, item: &[u8; 80], buffer: &mut [u8; 4096]) -> Run {
+        if has_buffer(item[0]) {
+            let out = self.out;
+            return self.with_line(buffer_answer(out, item, buffer), buffer);
+        }
+        self.answer_call(item, buffer)
     }
 
     // Answers the items of `text`.
