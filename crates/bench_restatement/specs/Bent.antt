@@ -2,8 +2,8 @@
 use Prim.Native.Nat.{ℕ}
 use lib.ListN.{replicate}
 use Rattle.mpe_layout.specs.Layout.{layoutOf}
-use Rattle.restatement.specs.declared.Settings.{Settings}
-use Rattle.restatement.specs.Settings.{newZone}
+use Rattle.settings.specs.declared.Settings.{Settings}
+use Rattle.settings.specs.Settings.{newZone}
 
 abbrev pub bentTo : ℕ → Settings
 bentTo bend =

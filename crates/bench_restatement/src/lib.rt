@@ -2,12 +2,12 @@
 ghost use mathlib.Core.Path.{_≡_};
 ghost use lib.ListN.{length};
 ghost use Rattle.mpe_sender.specs.Zone.{filled, writtenRead};
-ghost use Rattle.restatement.specs.Messages.{restatement, byteCount, restatedReply, countIn};
+ghost use Rattle.settings.specs.Messages.{restatement, byteCount, restatedReply, countIn};
 ghost use Rattle.bench_restatement.specs.Bent.{bentTo};
 use mpe_layout::MpeLayout;
 use mpe_sender::Written;
-use restatement::Settings;
 use restatement::restatement_bytes;
+use settings::Settings;
 
 // Two zones of seven, and this bend on every channel.
 fn bent(bend: u16) -> Settings

@@ -1,7 +1,7 @@
 -- The bench examples hold: the whole table, by computation.
 -- Assumes nothing.
 use mathlib.Core.Path.{refl}
-use Rattle.parameters.specs.Apply.{stepCents, stepNumbered}
+use Rattle.parameter_event.specs.Apply.{stepCents, stepNumbered}
 use Rattle.mpe_layout.specs.Layout.{legalCounts, legal, placeOf, roleOf, leftBeside, withMcm}
 use Rattle.mpe_pitch.specs.Pitch.{pitchOffset, pitchBendValue}
 use Rattle.mpe_receiver.specs.Bench.{replyTo, table, TableHolds}

@@ -6,10 +6,10 @@ use lib.IntN.{ℤ, pos, negℤ}
 use Rattle.ump.specs.Outcome.{Outcome, given, outOfRange}
 use Rattle.ump.specs.Packet.{packetValue}
 use Rattle.ump.specs.declared.controller.Rpn.the-variants.{PitchBendSensitivity}
-use Rattle.parameters.specs.declared.Parameter.the-variants.{Registered}
-use Rattle.parameters.specs.declared.ParameterChange.{ParameterChange}
-use Rattle.parameters.specs.declared.ParameterChange.the-variants.{Increment, Decrement}
-use Rattle.parameters.specs.Apply.{applied}
+use Rattle.parameter_event.specs.declared.Parameter.the-variants.{Registered}
+use Rattle.parameter_event.specs.declared.ParameterChange.{ParameterChange}
+use Rattle.parameter_event.specs.declared.ParameterChange.the-variants.{Increment, Decrement}
+use Rattle.parameter_event.specs.Apply.{applied}
 use Rattle.mpe_layout.specs.declared.MpeZone.{MpeZone}
 use Rattle.mpe_layout.specs.declared.MpeZone.the-variants.{Lower, Upper}
 use Rattle.mpe_layout.specs.declared.MpeRole.{MpeRole}

@@ -10,8 +10,8 @@ use Rattle.ump.specs.Packet.{packetValue}
 use Rattle.ump.specs.Word.{wordOf, controlChange, twoDataWord, oneDataWord, bendWord}
 use Rattle.ump.specs.declared.controller.Rpn.{Rpn}
 use Rattle.parameter_messages.specs.Writers.{selectMessages, changeMessage}
-use Rattle.parameters.specs.declared.Parameter.the-variants.{Registered}
-use Rattle.parameters.specs.declared.ParameterChange.the-variants.{DataEntryMsb}
+use Rattle.parameter_event.specs.declared.Parameter.the-variants.{Registered}
+use Rattle.parameter_event.specs.declared.ParameterChange.the-variants.{DataEntryMsb}
 use Rattle.mpe_layout.specs.Layout.{ofLegal, membersOf, managerOf, lowestOf}
 use Rattle.mpe_layout.specs.declared.MpeZone.{MpeZone}
 use Rattle.mpe_layout.specs.declared.MpeLayout.{MpeLayout}

@@ -8,12 +8,12 @@ use lib.Dec.{ltb, eqb}
 use borrow.Author.Tests.{eqb-true, ne-eqb}
 use Rattle.ump.specs.Choice.{if_then_else_}
 use Rattle.ump.proofs.Cases.{by-test, of-both}
-use Rattle.parameters.specs.declared.ParameterChange.{ParameterChange}
-use Rattle.parameters.specs.declared.ParameterChange.the-variants.{DataEntryMsb, DataEntryLsb, Increment, Decrement}
-use Rattle.parameters.specs.declared.ParameterEvent.{ParameterEvent}
+use Rattle.parameter_event.specs.declared.ParameterChange.{ParameterChange}
+use Rattle.parameter_event.specs.declared.ParameterChange.the-variants.{DataEntryMsb, DataEntryLsb, Increment, Decrement}
+use Rattle.parameter_event.specs.declared.ParameterEvent.{ParameterEvent}
 use Rattle.parameters.specs.declared.MaybeEvent.{MaybeEvent}
 use Rattle.parameters.specs.declared.MaybeEvent.the-variants.{NoEvent}
-use Rattle.parameters.specs.Apply.{applied}
+use Rattle.parameter_event.specs.Apply.{applied}
 use Rattle.mpe_layout.specs.declared.MpeZone.{MpeZone}
 use Rattle.mpe_layout.specs.declared.MpeZone.the-variants.{Lower, Upper}
 use Rattle.mpe_layout.specs.declared.MpeRole.{MpeRole}

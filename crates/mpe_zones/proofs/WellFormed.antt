@@ -7,9 +7,9 @@ use mathlib.Core.List.{List}
 use lib.ListN.{length, length-set}
 use lib.Dec.{ltb, eqb}
 use Rattle.ump.proofs.Cases.{of-both}
-use Rattle.parameters.specs.declared.ParameterChange.{ParameterChange}
-use Rattle.parameters.specs.declared.ParameterChange.the-variants.{DataEntryMsb, DataEntryLsb, Increment, Decrement}
-use Rattle.parameters.specs.declared.ParameterEvent.{ParameterEvent}
+use Rattle.parameter_event.specs.declared.ParameterChange.{ParameterChange}
+use Rattle.parameter_event.specs.declared.ParameterChange.the-variants.{DataEntryMsb, DataEntryLsb, Increment, Decrement}
+use Rattle.parameter_event.specs.declared.ParameterEvent.{ParameterEvent}
 use Rattle.parameters.specs.declared.MaybeEvent.{MaybeEvent}
 use Rattle.mpe_layout.specs.declared.MpeZone.{MpeZone}
 use Rattle.mpe_layout.specs.declared.MpeZone.the-variants.{Lower, Upper}

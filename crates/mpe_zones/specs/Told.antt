@@ -7,12 +7,12 @@ use lib.Dec.{ltb, eqb}
 use Rattle.ump.specs.Choice.{if_then_else_}
 use Rattle.ump.specs.declared.controller.Rpn.{Rpn}
 use Rattle.ump.specs.declared.controller.Rpn.the-variants as rpn
-use Rattle.parameters.specs.Apply.{applied}
-use Rattle.parameters.specs.declared.Parameter.{Parameter}
-use Rattle.parameters.specs.declared.Parameter.the-variants.{Registered, NonRegistered}
-use Rattle.parameters.specs.declared.ParameterChange.{ParameterChange}
-use Rattle.parameters.specs.declared.ParameterChange.the-variants.{DataEntryMsb, DataEntryLsb, Increment, Decrement}
-use Rattle.parameters.specs.declared.ParameterEvent.{ParameterEvent}
+use Rattle.parameter_event.specs.Apply.{applied}
+use Rattle.parameter_event.specs.declared.Parameter.{Parameter}
+use Rattle.parameter_event.specs.declared.Parameter.the-variants.{Registered, NonRegistered}
+use Rattle.parameter_event.specs.declared.ParameterChange.{ParameterChange}
+use Rattle.parameter_event.specs.declared.ParameterChange.the-variants.{DataEntryMsb, DataEntryLsb, Increment, Decrement}
+use Rattle.parameter_event.specs.declared.ParameterEvent.{ParameterEvent}
 use Rattle.parameters.specs.declared.MaybeEvent.{MaybeEvent}
 use Rattle.parameters.specs.declared.MaybeEvent.the-variants.{NoEvent, Event}
 use Rattle.mpe_layout.specs.declared.MpeZone.{MpeZone}

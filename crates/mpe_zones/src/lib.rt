@@ -14,10 +14,10 @@ use mpe_layout::MpeZone;
 use mpe_layout::ResetMask;
 use mpe_layout::announcement_reset;
 use mpe_pitch::MpeSensitivity;
+use parameter_event::Parameter;
+use parameter_event::ParameterChange;
+use parameter_event::ParameterEvent;
 use parameters::MaybeEvent;
-use parameters::Parameter;
-use parameters::ParameterChange;
-use parameters::ParameterEvent;
 use ump::controller::Rpn;
 
 // What one message gives.

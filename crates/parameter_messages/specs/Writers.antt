@@ -7,10 +7,10 @@ use Rattle.ump.specs.Outcome.{Outcome, given, outOfRange, allOf, followedBy}
 use Rattle.ump.specs.Word.{controlChange}
 use Rattle.ump.specs.Controller.{rpnGiven}
 use Rattle.ump.specs.declared.controller.Rpn.{Rpn}
-use Rattle.parameters.specs.declared.Parameter.{Parameter}
-use Rattle.parameters.specs.declared.Parameter.the-variants.{Registered, NonRegistered}
-use Rattle.parameters.specs.declared.ParameterChange.{ParameterChange}
-use Rattle.parameters.specs.declared.ParameterChange.the-variants.{DataEntryMsb, DataEntryLsb, Increment, Decrement}
+use Rattle.parameter_event.specs.declared.Parameter.{Parameter}
+use Rattle.parameter_event.specs.declared.Parameter.the-variants.{Registered, NonRegistered}
+use Rattle.parameter_event.specs.declared.ParameterChange.{ParameterChange}
+use Rattle.parameter_event.specs.declared.ParameterChange.the-variants.{DataEntryMsb, DataEntryLsb, Increment, Decrement}
 
 -- a number by two controllers; a half above 127 is out of range
 abbrev pub numberMessages : ℕ → ℕ → ℕ → ℕ → ℕ → Outcome (List ℕ)

@@ -6,11 +6,11 @@ use Rattle.ump.specs.Choice.{if_then_else_}
 use Rattle.ump.specs.Outcome.{Outcome, given, outOfRange}
 use Rattle.ump.specs.Word.{opcodeOf, firstOf, secondOf, wordForm}
 use Rattle.ump.specs.Controller.{rpnOf}
-use Rattle.parameters.specs.declared.Parameter.{Parameter}
-use Rattle.parameters.specs.declared.Parameter.the-variants.{Registered, NonRegistered}
-use Rattle.parameters.specs.declared.ParameterChange.{ParameterChange}
-use Rattle.parameters.specs.declared.ParameterChange.the-variants.{DataEntryMsb, DataEntryLsb, Increment, Decrement}
-use Rattle.parameters.specs.declared.ParameterEvent.{ParameterEvent}
+use Rattle.parameter_event.specs.declared.Parameter.{Parameter}
+use Rattle.parameter_event.specs.declared.Parameter.the-variants.{Registered, NonRegistered}
+use Rattle.parameter_event.specs.declared.ParameterChange.{ParameterChange}
+use Rattle.parameter_event.specs.declared.ParameterChange.the-variants.{DataEntryMsb, DataEntryLsb, Increment, Decrement}
+use Rattle.parameter_event.specs.declared.ParameterEvent.{ParameterEvent}
 use Rattle.parameters.specs.declared.Number.{Number}
 use Rattle.parameters.specs.declared.ParameterState.{ParameterState}
 use Rattle.parameters.specs.declared.Selection.{Selection}

@@ -9,9 +9,9 @@ use native.Mathlib.Omega.{arith}
 use lib.ListN.{length, getD, set}
 use lib.Seq.{getD-set-same, set-set}
 use Rattle.ump.specs.Controller.{rpnOf}
-use Rattle.parameters.specs.declared.Parameter.the-variants.{Registered}
-use Rattle.parameters.specs.declared.ParameterChange.the-variants.{DataEntryMsb}
-use Rattle.parameters.specs.declared.ParameterEvent.{ParameterEvent}
+use Rattle.parameter_event.specs.declared.Parameter.the-variants.{Registered}
+use Rattle.parameter_event.specs.declared.ParameterChange.the-variants.{DataEntryMsb}
+use Rattle.parameter_event.specs.declared.ParameterEvent.{ParameterEvent}
 use Rattle.parameters.specs.declared.ParameterState.{ParameterState}
 use Rattle.parameters.specs.declared.MaybeEvent.the-variants.{Event}
 use Rattle.parameters.specs.State.{number, withRpn, selects, selectionOf, numberStored, controlled, hearing}

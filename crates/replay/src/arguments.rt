@@ -1,7 +1,7 @@
 // The arguments of an item, from its bytes.
 use mpe_layout::MpeZone;
-use parameters::Parameter;
-use parameters::ParameterChange;
+use parameter_event::Parameter;
+use parameter_event::ParameterChange;
 use ump::controller::Rpn;
 
 // Two bytes, highest first.

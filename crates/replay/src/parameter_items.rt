@@ -1,13 +1,13 @@
 // Items 30 to 39: parameter events, their messages, and a channel's parameter state.
 use crate::arguments;
 use crate::line::Line;
+use parameter_event::Parameter;
+use parameter_event::ParameterChange;
+use parameter_event::ParameterEvent;
 use parameter_messages::change_message;
 use parameter_messages::select_messages;
 use parameter_messages::value_messages;
 use parameters::MaybeEvent;
-use parameters::Parameter;
-use parameters::ParameterChange;
-use parameters::ParameterEvent;
 use parameters::ParameterState;
 use parameters::Reply;
 use parameters::Selection;

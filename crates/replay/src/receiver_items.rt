@@ -10,8 +10,8 @@ use mpe_receiver::MpeReceiver;
 use mpe_receiver::Offset;
 use mpe_receiver::Reply;
 use mpe_zones::MpeEvent;
+use parameter_event::ParameterEvent;
 use parameters::MaybeEvent;
-use parameters::ParameterEvent;
 
 // The receiver after an item, and the answer.
 pub(crate) struct ReceiverTold {

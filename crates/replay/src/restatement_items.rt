@@ -5,10 +5,10 @@ use mpe_layout::MpeLayout;
 use mpe_sender::Written;
 use receiving_end::end::End;
 use receiving_end::end::hear;
-use restatement::Settings;
-use restatement::ZoneSettings;
 use restatement::restatement_bytes;
 use restatement::restatement_words;
+use settings::Settings;
+use settings::ZoneSettings;
 ghost use Prim.Native.Nat.{_≤_};
 
 // The bytes and the words of a buffer before a call.

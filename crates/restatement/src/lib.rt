@@ -1,4 +1,4 @@
-// Settings of an end, and the restatement: the messages that bring any end to them.
+// The restatement: the messages that bring any end to given settings, as words and as bytes.
 ghost use mathlib.Core.Path.{_≡_};
 ghost use mathlib.Core.Bool.{true};
 ghost use mathlib.Core.List.{[], _∷_};
@@ -10,17 +10,18 @@ ghost use Rattle.ump.specs.Word.{bendWord, oneDataWord, controlChange, messageM
 ghost use Rattle.ump.specs.Packet.{packetValue};
 ghost use Rattle.mpe_layout.specs.Layout.{legal, membersOf};
 ghost use Rattle.mpe_sender.specs.Zone.{filled, writtenRead};
-ghost use Rattle.restatement.specs.Settings.{newZone, newSettings, zoneOf, zoneAllowed, channelAllowed, andChannel, channelsAllowed, allowed};
-ghost use Rattle.restatement.specs.Messages.{resets, announcements, sensitivities, modes, deselections, controls, messages, bytesOf, bytes, restatement, oneIfAny, messageCount, byteCount, restatedReply, wordsIn, countIn};
-ghost use Rattle.restatement.specs.Demand.{Demand};
+ghost use Rattle.settings.specs.Settings.{zoneAllowed, channelAllowed, andChannel, channelsAllowed, allowed};
+ghost use Rattle.settings.specs.Messages.{resets, announcements, sensitivities, modes, deselections, controls, messages, bytesOf, bytes, restatement, oneIfAny, messageCount, byteCount, restatedReply, wordsIn, countIn};
+ghost use Rattle.settings.specs.Demand.{Demand};
 use mpe_layout::MadeLayout;
 use mpe_layout::MpeLayout;
 use mpe_layout::MpeZone;
-use mpe_pitch::MpeSensitivity;
 use mpe_sender::Written;
 use mpe_sender::mcm_messages;
 use mpe_sender::mode_message;
 use mpe_sender::zone_sensitivity_messages;
+use settings::Settings;
+use settings::ZoneSettings;
 use ump::channel_voice1::Message;
 use ump::channel_voice1::Midi1ChannelPressure;
 use ump::channel_voice1::Midi1PitchBend;
@@ -35,63 +36,6 @@ use ump::channel_voice1::three_words;
 use ump::channel_voice1::two_words;
 use ump::packet::Channel;
 use ump::packet::Group;
-
-// What is set for a zone: semitones 0 to 96 of its manager and of its members, and mode 3 or 4. Of a zone without members nothing is read.
-pub struct ZoneSettings {
-    pub manager: u8,
-    pub member: u8,
-    pub mode: u8,
-}
-
-// The settings of an end: a layout, its zones, and for each channel bend 0 to 0x3FFF, pressure and brightness 0 to 127.
-pub struct Settings {
-    pub layout: MpeLayout,
-    pub lower: ZoneSettings,
-    pub upper: ZoneSettings,
-    pub pitch_bend: [u16; 16],
-    pub pressure: [u8; 16],
-    pub brightness: [u8; 16],
-}
-
-impl ZoneSettings {
-    // What a zone without members shows: the default sensitivities, and mode 3.
-    fn new() -> ZoneSettings
-        ensures { λ r. ⌜ r ≡ newZone ⌝ }
-    {
-        let manager = MpeSensitivity::MANAGER_DEFAULT;
-        let member = MpeSensitivity::MEMBER_DEFAULT;
-        ZoneSettings {
-            manager: manager.semitones,
-            member: member.semitones,
-            mode: 3,
-        }
-    }
-}
-
-impl Settings {
-    // No zone, and every channel at rest.
-    pub fn new() -> Settings
-        ensures { λ r. ⌜ r ≡ newSettings ⌝ }
-    {
-        Settings {
-            layout: MpeLayout::NONE,
-            lower: ZoneSettings::new(),
-            upper: ZoneSettings::new(),
-            pitch_bend: [0x2000; 16],
-            pressure: [0; 16],
-            brightness: [64; 16],
-        }
-    }
-
-    fn zone(self, zone: MpeZone) -> ZoneSettings
-        ensures { λ r. ⌜ r ≡ zoneOf self zone ⌝ }
-    {
-        match zone {
-            MpeZone::Lower => self.lower,
-            MpeZone::Upper => self.upper,
-        }
-    }
-}
 
 // The fields of a zone with so many members are inside their limits, or are not read.
 fn zone_allowed(members: u8, zone: ZoneSettings) -> bool

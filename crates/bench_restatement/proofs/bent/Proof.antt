@@ -4,7 +4,7 @@ use mathlib.Core.Path.{ap}
 use lib.ListN.{replicate}
 use borrow.Author.Needs.{needs}
 use Rattle.mpe_layout.specs.Layout.{layoutOf}
-use Rattle.restatement.specs.declared.Settings.{Settings}
+use Rattle.settings.specs.declared.Settings.{Settings}
 use Rattle.bench_restatement.proofs.bent.Statement.{statement}
 use Rattle.bench_restatement.proofs.bent.Tie as tie
 

@@ -4,8 +4,8 @@ use mathlib.Core.Path.{ap, _∙_}
 use lib.ListN.{length}
 use borrow.Author.Needs.{needs}
 use Rattle.mpe_sender.specs.Zone.{filled}
-use Rattle.restatement.specs.declared.Settings.{Settings}
-use Rattle.restatement.specs.Messages.{restatement, byteCount, restatedReply, countIn}
+use Rattle.settings.specs.declared.Settings.{Settings}
+use Rattle.settings.specs.Messages.{restatement, byteCount, restatedReply, countIn}
 use borrow.Author.Needs.{needs}
 use Rattle.bench_restatement.proofs.gurfemau_restatement.Statement.{statement}
 use Rattle.bench_restatement.proofs.gurfemau_restatement.Tie as tie

@@ -3,12 +3,12 @@
 use Prim.Native.Nat.{_/_, _%_}
 use mathlib.Core.Path.{ap, _∙_}
 use borrow.Author.Needs.{needs}
-use Rattle.parameters.specs.Apply.{applied}
+use Rattle.parameter_event.specs.Apply.{applied}
 use Rattle.mpe_zones.specs.Zones.{sensitivityPut}
 use Rattle.mpe_zones.proofs.apply_at.Statement.{statement}
 use Rattle.mpe_zones.proofs.apply_at.Tie as tie
 use native.Mathlib.Omega.{arith}
-use Rattle.parameters.proofs.Steps.{applied-fits}
+use Rattle.parameter_event.proofs.Steps.{applied-fits}
 
 add-j : tie.Need-add-j
 add-j c = search needs

@@ -1,7 +1,7 @@
 -- `restatement::byte_count` meets its contract.
 -- Assumes nothing.
-use Rattle.restatement.specs.Messages.{messageCount, byteCount}
-use Rattle.restatement.proofs.Counts.{one-le}
+use Rattle.settings.specs.Messages.{messageCount, byteCount}
+use Rattle.settings.proofs.Counts.{one-le}
 use borrow.Author.Needs.{needs}
 use Rattle.ump.proofs.Auto.{auto}
 use native.Mathlib.Omega.{arith}

@@ -1,6 +1,6 @@
 -- `restatement::channel_allowed` meets its contract: each test in its turn.
 -- Assumes nothing.
-use Rattle.restatement.specs.Settings.{channelAllowed}
+use Rattle.settings.specs.Settings.{channelAllowed}
 use Rattle.ump.proofs.Auto.{auto}
 use Rattle.restatement.proofs.channel_allowed.Statement.{statement}
 use Rattle.restatement.proofs.channel_allowed.Tie as tie

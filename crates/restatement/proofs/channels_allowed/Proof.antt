@@ -3,7 +3,7 @@
 use Prim.Native.Nat.{_-_, _≤_}
 use mathlib.Core.Path.{_≡_, refl, ap, _∙_}
 use native.Mathlib.Numerals.{add-one}
-use Rattle.restatement.specs.Settings.{channelsAllowed}
+use Rattle.settings.specs.Settings.{channelsAllowed}
 use borrow.Author.Needs.{needs}
 use native.Mathlib.Omega.{arith}
 use Rattle.restatement.proofs.channels_allowed.Statement.{statement}

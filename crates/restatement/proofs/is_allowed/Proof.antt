@@ -4,8 +4,8 @@ use mathlib.Core.Path.{_≡_, sym, ap, _∙_}
 use mathlib.Core.Bool.{true, false}
 use borrow.Author.Tests.{not-true, not-false}
 use Rattle.mpe_layout.specs.Layout.{layoutMade}
-use Rattle.restatement.specs.Settings.{zoneAllowed, allowed}
-use Rattle.restatement.proofs.Allowed.{made-legal, made-none}
+use Rattle.settings.specs.Settings.{zoneAllowed, allowed}
+use Rattle.settings.proofs.Allowed.{made-legal, made-none}
 use borrow.Author.Needs.{needs}
 use Rattle.restatement.proofs.is_allowed.Statement.{statement}
 use Rattle.restatement.proofs.is_allowed.Tie as tie

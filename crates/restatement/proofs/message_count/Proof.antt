@@ -1,7 +1,7 @@
 -- `restatement::message_count` meets its contract: the sums as they are.
 -- Assumes nothing.
-use Rattle.restatement.specs.Messages.{messageCount}
-use Rattle.restatement.proofs.Counts.{one-le}
+use Rattle.settings.specs.Messages.{messageCount}
+use Rattle.settings.proofs.Counts.{one-le}
 use borrow.Author.Needs.{needs}
 use Rattle.ump.proofs.Auto.{auto}
 use native.Mathlib.Omega.{arith}

@@ -5,7 +5,7 @@ use native.Mathlib.Numerals.{add-one, add-two}
 use mathlib.Core.Path.{_≡_, refl, sym, _∙_}
 use mathlib.Core.Bool.{true, false}
 use Rattle.ump.specs.Word.{oneData, opcodeOf}
-use Rattle.restatement.proofs.Bytes.{one-c, one-d, two-data, length-two, length-least}
+use Rattle.settings.proofs.Bytes.{one-c, one-d, two-data, length-two, length-least}
 use borrow.Author.Needs.{needs}
 use native.Mathlib.Omega.{arith}
 use Rattle.restatement.proofs.put_bytes.Statement.{statement}

@@ -7,13 +7,13 @@ use mathlib.Core.List.{_++_}
 use lib.ListN.{length, take, drop, replicate}
 use lib.Seq.{sets, length-sets}
 use borrow.Author.Tests.{not-true, not-false, lt-ltb, le-ltb}
-use Rattle.restatement.specs.Settings.{allowed}
-use Rattle.restatement.specs.Messages.{messages, bytes, restatement, messageCount, byteCount, restatedReply}
-use Rattle.restatement.specs.Demand.{Demand}
-use Rattle.restatement.proofs.Allowed.{allowed-legal}
-use Rattle.restatement.proofs.Sets.{sets-front, take-front}
-use Rattle.restatement.proofs.Counts.{message-count, most-messages, byte-count}
-use Rattle.restatement.proofs.Demand.{demand-holds}
+use Rattle.settings.specs.Settings.{allowed}
+use Rattle.settings.specs.Messages.{messages, bytes, restatement, messageCount, byteCount, restatedReply}
+use Rattle.settings.specs.Demand.{Demand}
+use Rattle.settings.proofs.Allowed.{allowed-legal}
+use Rattle.settings.proofs.Sets.{sets-front, take-front}
+use Rattle.settings.proofs.Counts.{message-count, most-messages, byte-count}
+use Rattle.settings.proofs.Demand.{demand-holds}
 use borrow.Author.Needs.{needs}
 use native.Mathlib.Omega.{arith}
 use Rattle.restatement.proofs.restatement_bytes.Statement.{statement}

@@ -6,10 +6,10 @@ use mathlib.Core.Bool.{true, false}
 use mathlib.Core.List.{_++_}
 use lib.ListN.{length, drop}
 use borrow.Author.Tests.{not-true, not-false, lt-ltb, le-ltb}
-use Rattle.restatement.specs.Settings.{allowed}
-use Rattle.restatement.specs.Messages.{messages, messageCount, restatedReply}
-use Rattle.restatement.proofs.Sets.{sets-front}
-use Rattle.restatement.proofs.Counts.{message-count}
+use Rattle.settings.specs.Settings.{allowed}
+use Rattle.settings.specs.Messages.{messages, messageCount, restatedReply}
+use Rattle.settings.proofs.Sets.{sets-front}
+use Rattle.settings.proofs.Counts.{message-count}
 use borrow.Author.Needs.{needs}
 use native.Mathlib.Omega.{arith}
 use Rattle.restatement.proofs.restatement_words.Statement.{statement}

@@ -5,9 +5,9 @@ use Prim.Native.Nat.{_-_}
 use native.Mathlib.Nat.{le-refl}
 use lib.ListN.{length}
 use borrow.Rule.Slice.PartMut.{midOf, mid-len}
-use Rattle.restatement.specs.Messages.{sensitivities}
-use Rattle.restatement.proofs.Sets.{sets-part}
-use Rattle.restatement.proofs.Made.{sensitivities-made}
+use Rattle.settings.specs.Messages.{sensitivities}
+use Rattle.settings.proofs.Sets.{sets-part}
+use Rattle.settings.proofs.Made.{sensitivities-made}
 use borrow.Author.Needs.{needs}
 use native.Mathlib.Omega.{arith}
 use Rattle.restatement.proofs.write_sensitivities.Statement.{statement}

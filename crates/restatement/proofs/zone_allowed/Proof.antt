@@ -1,6 +1,6 @@
 -- `restatement::zone_allowed` meets its contract: each test in its turn.
 -- Assumes nothing.
-use Rattle.restatement.specs.Settings.{zoneAllowed}
+use Rattle.settings.specs.Settings.{zoneAllowed}
 use Rattle.ump.proofs.Auto.{auto}
 use Rattle.restatement.proofs.zone_allowed.Statement.{statement}
 use Rattle.restatement.proofs.zone_allowed.Tie as tie

@@ -1,0 +1,29 @@
+-- `parameter_event::saturating_step` meets its contract.
+-- Assumes nothing.
+use borrow.Author.Needs.{needs}
+use Rattle.parameter_event.proofs.saturating_step.Statement.{statement}
+use Rattle.parameter_event.proofs.saturating_step.Tie as tie
+use native.Mathlib.Omega.{arith}
+use Rattle.ump.proofs.Auto.{auto}
+
+add-result : tie.Need-add-result
+add-result c = search needs
+
+returns : tie.Need-returns
+returns c = search (auto, c .before .if1 .taken)
+
+returns-2 : tie.Need-returns-2
+returns-2 c = search (auto, c .before .if1 .taken)
+
+sub-result : tie.Need-sub-result
+sub-result c = search needs
+
+returns-3 : tie.Need-returns-3
+returns-3 c = search (auto, c .before .if1 .left)
+
+returns-4 : tie.Need-returns-4
+returns-4 c = rw (c .before .if1 .left) (omega arith)
+
+pub saturating-step-spec : {M : Type 1} → statement M
+saturating-step-spec =
+    tie.close (tie.spec add-result returns returns-2 sub-result returns-3 returns-4)

@@ -1,0 +1,194 @@
+-- How many messages a restatement has, and how many bytes.
+-- Assumes nothing.
+use Prim.Native.Nat.{ℕ, zero, suc, _+_, _*_, _<_, _≤_}
+use mathlib.Core.Path.{_≡_, refl, ap, _∙_}
+use mathlib.Core.Bool.{true, false}
+use mathlib.Core.List.{append-nil}
+use native.Mathlib.Numerals.{add-one}
+use native.Mathlib.Omega.{arith}
+use lib.Dec.{eqb}
+use lib.ListN.{length, length-append}
+use borrow.Author.Tests.{eqb-true, eqb-false}
+use Rattle.ump.proofs.Cases.{by-test, of-both}
+use Rattle.mpe_layout.specs.Layout.{legal, managerOf, lowestOf}
+use Rattle.mpe_layout.specs.declared.MpeZone.{MpeZone}
+use Rattle.mpe_layout.specs.declared.MpeZone.the-variants.{Lower, Upper}
+use Rattle.mpe_layout.specs.declared.MpeLayout.{MpeLayout}
+use Rattle.mpe_layout.proofs.Legal.{members-le, both-le}
+use Rattle.mpe_sender.specs.Zone.{channelAt, semitonesAt, zoneGroups, groupAt, groups, InRange}
+use Rattle.mpe_sender.proofs.Groups.{manager-lt, groups-length, channel-lt, semitones-le}
+use Rattle.mpe_sender.proofs.Zones.{members-in}
+use Rattle.settings.specs.Settings.{zoneOf, membersIn, isMono, bendOf, pressureOf, brightnessOf, allowed}
+use Rattle.settings.specs.Messages.{resetOn, resets, announcement, announcements, sensitivities, modes, deselectionOn, deselections, controlsOn, controls, messages, bytesOf, bytes, restatement, oneIfAny, messageCount, byteCount, CountsHold}
+use Rattle.settings.specs.declared.Settings.{Settings}
+use Rattle.settings.proofs.Allowed.{allowed-legal, allowed-zone, allowed-channel}
+use Rattle.settings.proofs.Sets.{each-length}
+use Rattle.settings.proofs.Made.{lowest-lt}
+use Rattle.settings.proofs.Bytes.{control-bytes, group-bytes, append-length, each-bytes, bend-bytes, pressure-bytes}
+
+pub one-le : (members : ℕ) → oneIfAny members ≤ 1
+one-le members = by-test (eqb members 0) (λ e. rw e (omega arith)) (λ e. rw e (omega arith))
+
+-- the messages of each group
+pub resets-length : length resets ≡ 16
+resets-length = each-length resetOn 1 (λ k. refl) 16
+
+pub announcements-length : (l : MpeLayout) → length (announcements l) ≡ 12
+announcements-length l = refl
+
+pub sensitivities-length : (s : Settings) (zone : MpeZone) → length (sensitivities s zone) ≡ 3 * (oneIfAny (membersIn s zone) + membersIn s zone)
+unfolding sensitivities
+sensitivities-length s zone =
+    by-test (eqb (membersIn s zone) 0)
+    (λ e. rw e (omega (arith, eqb-true (membersIn s zone) 0 e)))
+    (λ e. rw e
+    (omega (arith, groups-length (zoneGroups (managerOf zone) (lowestOf (s .layout) zone) (zoneOf s zone .manager) (zoneOf s zone .member)) (membersIn s zone + 1))))
+
+pub modes-length : (s : Settings) (zone : MpeZone) → length (modes s zone) ≡ oneIfAny (membersIn s zone)
+unfolding modes
+modes-length s zone = by-test (eqb (membersIn s zone) 0) (λ e. rw e) (λ e. rw e)
+
+pub deselections-length : length deselections ≡ 32
+deselections-length = each-length deselectionOn 2 (λ k. refl) 16
+
+pub controls-length : (s : Settings) → length (controls s) ≡ 48
+controls-length s = each-length (controlsOn s) 3 (λ k. refl) 16
+
+-- 108 + 4z + 3m
+pub message-count : (s : Settings) → allowed s ≡ true → length (messages s) ≡ messageCount (s .layout)
+unfolding messages messageCount
+message-count s h =
+    simp length-append
+    (omega (
+      arith,
+      resets-length,
+      announcements-length (s .layout),
+      sensitivities-length s Lower,
+      sensitivities-length s Upper,
+      modes-length s Lower,
+      modes-length s Upper,
+      deselections-length,
+      controls-length s,
+    ))
+
+-- by its parts
+pub parts-count : (s : Settings)
+    → messageCount (s .layout) ≡ 108 + length (sensitivities s Lower) + length (sensitivities s Upper) + length (modes s Lower) + length (modes s Upper)
+unfolding messageCount
+parts-count s =
+    omega (arith, sensitivities-length s Lower, sensitivities-length s Upper, modes-length s Lower, modes-length s Upper)
+
+-- no legal layout has more than (7,7)
+pub most-messages : (l : MpeLayout) → legal l ≡ true → messageCount l ≤ 158
+unfolding messageCount
+most-messages l h =
+    by-test (eqb (l .lower) 0)
+    (λ e. rw e (omega (arith, eqb-true (l .lower) 0 e, members-le l Upper h, one-le (l .upper))))
+    (λ e.
+    by-test (eqb (l .upper) 0)
+    (λ f. rw (e, f) (omega (arith, eqb-true (l .upper) 0 f, members-le l Lower h)))
+    (λ f. rw (e, f) (omega (arith, both-le l h (some (l .lower) e) (some (l .upper) f)))))
+  where
+    some : (n : ℕ) → eqb n 0 ≡ false → 0 < n
+    some n e = omega (arith, eqb-false n 0 e)
+
+-- the bytes of each group
+resets-bytes : length (bytes resets) ≡ 48
+unfolding bytes
+resets-bytes =
+    each-bytes resetOn 3 16 (λ k l. simp length-append (omega (arith, ap length (control-bytes k 121 0 l (omega arith) (omega arith)))))
+
+announcements-bytes : (l : MpeLayout) → legal l ≡ true → length (bytes (announcements l)) ≡ 36
+announcements-bytes l h =
+    simp append-length
+    (omega (
+      arith,
+      of-zone Lower 7 (omega arith),
+      of-zone Upper 7 (omega arith),
+      of-zone Lower (l .lower) (members-le l Lower h),
+      of-zone Upper (l .upper) (members-le l Upper h),
+    ))
+  where
+    of-zone : (zone : MpeZone) (members : ℕ) → members ≤ 15 → length (bytes (announcement zone members)) ≡ 9
+    of-zone zone members b = ap length (group-bytes (managerOf zone) 6 members (manager-lt zone) (omega arith) (omega arith))
+
+groups-bytes : (manager lowest a b n : ℕ) → InRange (zoneGroups manager lowest a b) n → length (bytes (groups (zoneGroups manager lowest a b) n)) ≡ 9 * n
+unfolding groups bytes
+groups-bytes manager lowest a b zero r = refl
+groups-bytes manager lowest a b (suc n) r =
+    let z = zoneGroups manager lowest a b in
+    let q : InRange z n = record { manager-in = r .manager-in; members-in = omega (arith, r .members-in); manager-low = r .manager-low; member-low = r .member-low } in
+    let t : InRange z (n + 1) = rw add-one r in
+    append-length (groups z n) (groupAt z n)
+    ∙ omega (
+      arith,
+      groups-bytes manager lowest a b n q,
+      ap length (group-bytes (channelAt manager lowest n) 0 (semitonesAt a b n) (channel-lt z n t) (omega arith) (omega (arith, semitones-le z n (n + 1) t))),
+    )
+
+sensitivities-bytes : (s : Settings) (zone : MpeZone) → allowed s ≡ true → length (bytes (sensitivities s zone)) ≡ 3 * length (sensitivities s zone)
+unfolding sensitivities bytes
+sensitivities-bytes s zone h =
+    by-test (eqb (membersIn s zone) 0)
+    (λ e. rw e)
+    (λ e.
+    let m = membersIn s zone in
+    let w = zoneOf s zone in
+    let z = zoneGroups (managerOf zone) (lowestOf (s .layout) zone) (w .manager) (w .member) in
+    let f = allowed-zone s h zone (omega (arith, eqb-false m 0 e)) in
+    let r : InRange z (m + 1) =
+    record { manager-in = manager-lt zone; members-in = omega (arith, members-in (s .layout) zone (allowed-legal s h)); manager-low = f .0; member-low = f .1 } in
+    rw e (omega (arith, groups-bytes (managerOf zone) (lowestOf (s .layout) zone) (w .manager) (w .member) (m + 1) r, groups-length z (m + 1))))
+
+modes-bytes : (s : Settings) (zone : MpeZone) → allowed s ≡ true → length (bytes (modes s zone)) ≡ 3 * length (modes s zone)
+unfolding modes bytes
+modes-bytes s zone h =
+    by-test (eqb (membersIn s zone) 0)
+    (λ e. rw e)
+    (λ e.
+    let g = allowed-legal s h in
+    let lt = lowest-lt (s .layout) zone g (omega (arith, eqb-false (membersIn s zone) 0 e)) in
+    let mono = ap length (control-bytes (lowestOf (s .layout) zone) 126 (membersIn s zone) lt (omega arith) (omega (arith, members-le (s .layout) zone g))) in
+    let poly = ap length (control-bytes (lowestOf (s .layout) zone) 127 0 lt (omega arith) (omega arith)) in
+    rw (e, append-nil) (of-both (λ w. length (bytesOf w) ≡ 3) (isMono (zoneOf s zone)) mono poly))
+
+deselections-bytes : length (bytes deselections) ≡ 96
+unfolding bytes
+deselections-bytes =
+    each-bytes deselectionOn 6 16
+    (λ k l. simp length-append
+    (omega (arith, ap length (control-bytes k 101 127 l (omega arith) (omega arith)), ap length (control-bytes k 100 127 l (omega arith) (omega arith)))))
+
+controls-bytes : (s : Settings) → allowed s ≡ true → length (bytes (controls s)) ≡ 128
+unfolding bytes
+controls-bytes s h =
+    each-bytes (controlsOn s) 8 16
+    (λ k l.
+    let f = allowed-channel s h k l in
+    let bend = ap length (bend-bytes k (bendOf s k) l (omega (arith, f .0))) in
+    let pressure = ap length (pressure-bytes k (pressureOf s k) l (omega (arith, f .1))) in
+    simp length-append (omega (arith, bend, ap length (control-bytes k 74 (brightnessOf s k) l (omega arith) (omega (arith, f .2))), pressure)))
+
+-- three bytes each, less one for each pressure
+pub byte-count : (s : Settings) → allowed s ≡ true → length (restatement s) ≡ byteCount (s .layout)
+unfolding messages messageCount byteCount
+byte-count s h =
+    simp append-length
+    (omega (
+      arith,
+      resets-bytes,
+      simp append-length at (announcements-bytes (s .layout) (allowed-legal s h)),
+      sensitivities-bytes s Lower h,
+      sensitivities-bytes s Upper h,
+      sensitivities-length s Lower,
+      sensitivities-length s Upper,
+      modes-bytes s Lower h,
+      modes-bytes s Upper h,
+      modes-length s Lower,
+      modes-length s Upper,
+      deselections-bytes,
+      controls-bytes s h,
+    ))
+
+pub counts-hold : CountsHold
+counts-hold s h = (message-count s h, byte-count s h)

@@ -1,0 +1,97 @@
+-- What the writers of messages give for allowed settings: the words that a restatement has.
+-- Assumes nothing.
+use Prim.Native.Nat.{ℕ, _+_, _*_, _<_, _≤_}
+use mathlib.Core.Path.{_≡_, sym}
+use mathlib.Core.Bool.{Bool, true, false}
+use mathlib.Core.List.{List, [], _∷_, _++_}
+use native.Mathlib.Nat.{mod-eq-of-lt}
+use native.Mathlib.Omega.{arith}
+use lib.Dec.{eqb}
+use lib.ListN.{length, drop}
+use borrow.Author.Tests.{le-ltb, eqb-false}
+use Rattle.ump.specs.Choice.{if_then_else_}
+use Rattle.ump.specs.Outcome.{given, allOf}
+use Rattle.ump.specs.Packet.{packetValue}
+use Rattle.ump.specs.Word.{controlChange, twoDataWord, oneDataWord, bendWord}
+use Rattle.ump.proofs.Cases.{by-test}
+use Rattle.mpe_layout.specs.Layout.{legal, membersOf, managerOf, lowestOf}
+use Rattle.mpe_layout.specs.declared.MpeLayout.{MpeLayout}
+use Rattle.mpe_layout.specs.declared.MpeZone.{MpeZone}
+use Rattle.mpe_layout.proofs.Legal.{members-le}
+use Rattle.mpe_sender.specs.Writers.{controlWord, mcmMessages, modeOn, modeMessage, groupSize}
+use Rattle.mpe_sender.specs.Zone.{zoneGroups, zoneWords, fillReply, zoneReply, filled}
+use Rattle.mpe_sender.proofs.Groups.{groups-length}
+use Rattle.mpe_sender.proofs.Zones.{members-in}
+use Rattle.settings.specs.Settings.{zoneOf, membersIn, isMono, bendOf, pressureOf, brightnessOf, allowed}
+use Rattle.settings.specs.Messages.{announcement, sensitivities, modes, controlsOn, wordsIn, countIn}
+use Rattle.settings.specs.declared.Settings.{Settings}
+use Rattle.settings.proofs.Allowed.{allowed-legal, allowed-zone, allowed-channel}
+
+pub control-made : (k controller value : ℕ) → k < 16 → controller ≤ 0x7F → value ≤ 0x7F → controlChange k controller value ≡ given (controlWord k controller value)
+unfolding twoDataWord
+control-made k controller value h a v = rw (le-ltb 0x7F controller a, le-ltb 0x7F value v, mod-eq-of-lt h)
+
+-- F, of one channel
+pub controls-made : (s : Settings) (k : ℕ) → allowed s ≡ true → k < 16
+    → wordsIn (allOf (bendWord 0 (packetValue k) (bendOf s k) ∷ controlChange k 74 (brightnessOf s k) ∷ oneDataWord 0xD 0 (packetValue k) (pressureOf s k) ∷ []))
+    ≡ controlsOn s k
+unfolding bendWord oneDataWord
+controls-made s k h l =
+    let f = allowed-channel s h k l in
+    rw (
+      control-made k 74 (brightnessOf s k) l (omega arith) (f .2),
+      le-ltb 0x3FFF (bendOf s k) (f .0),
+      le-ltb 0x7F (pressureOf s k) (f .1),
+      mod-eq-of-lt l,
+    )
+
+-- B, of one zone
+pub announcement-made : (zone : MpeZone) (members : ℕ) → members ≤ 15 → wordsIn (mcmMessages zone members) ≡ announcement zone members
+unfolding mcmMessages
+announcement-made zone members h = rw (le-ltb 15 members h)
+
+-- the lowest member is a channel
+pub lowest-lt : (l : MpeLayout) (zone : MpeZone) → legal l ≡ true → 0 < membersOf l zone → lowestOf l zone < 16
+lowest-lt l zone h some = omega (arith, members-in l zone h)
+
+mode-on : (s : Settings) (zone : MpeZone) (mono : Bool) → legal (s .layout) ≡ true → 0 < membersIn s zone
+    → modeOn (lowestOf (s .layout) zone) (membersIn s zone) mono
+    ≡ given (if mono then controlWord (lowestOf (s .layout) zone) 126 (membersIn s zone) else controlWord (lowestOf (s .layout) zone) 127 0)
+unfolding modeOn
+mode-on s zone true h some =
+    control-made (lowestOf (s .layout) zone) 126 (membersIn s zone) (lowest-lt (s .layout) zone h some) (omega arith) (omega (arith, members-le (s .layout) zone h))
+mode-on s zone false h some = control-made (lowestOf (s .layout) zone) 127 0 (lowest-lt (s .layout) zone h some) (omega arith) (omega arith)
+
+-- D
+pub mode-made : (s : Settings) (zone : MpeZone) → allowed s ≡ true
+    → wordsIn (allOf (modeMessage (s .layout) zone (isMono (zoneOf s zone)) ∷ [])) ≡ modes s zone
+unfolding modes
+mode-made s zone h =
+    let g = allowed-legal s h in
+    by-test (eqb (membersIn s zone) 0)
+    (λ e. rw (g, e))
+    (λ e. rw (g, e, mode-on s zone (isMono (zoneOf s zone)) g (omega (arith, eqb-false (membersIn s zone) 0 e))))
+
+-- C: how many words are written, and the buffer
+pub record Written (s : Settings) (zone : MpeZone) (got : ℕ) : Type 0 where
+  pub count : countIn (zoneReply (s .layout) zone (zoneOf s zone .manager) (zoneOf s zone .member) got) ≡ length (sensitivities s zone)
+  pub buffer : (part : List ℕ) → filled (zoneReply (s .layout) zone (zoneOf s zone .manager) (zoneOf s zone .member) got) (zoneWords (s .layout) zone (zoneOf s zone .manager) (zoneOf s zone .member)) part
+      ≡ sensitivities s zone ++ drop (length (sensitivities s zone)) part
+
+pub sensitivities-made : (s : Settings) (zone : MpeZone) (got : ℕ) → allowed s ≡ true → length (sensitivities s zone) ≤ got → Written s zone got
+unfolding sensitivities fillReply
+sensitivities-made s zone got h l =
+    let g = allowed-legal s h in
+    by-test (eqb (membersIn s zone) 0)
+    (λ e. record { count = rw (g, e); buffer = λ part. rw (g, e) })
+    (λ e.
+    let z = allowed-zone s h zone (omega (arith, eqb-false (membersIn s zone) 0 e)) in
+    let m = groupSize * (membersIn s zone + 1) in
+    let n : length (zoneWords (s .layout) zone (zoneOf s zone .manager) (zoneOf s zone .member)) ≡ m =
+    groups-length (zoneGroups (managerOf zone) (lowestOf (s .layout) zone) (zoneOf s zone .manager) (zoneOf s zone .member)) (membersIn s zone + 1) in
+    let f : length (zoneWords (s .layout) zone (zoneOf s zone .manager) (zoneOf s zone .member)) ≤ got = rw e at l in
+    let fits : m ≤ got = rw n at f in
+    record {
+      count = rw (g, e, le-ltb 96 (zoneOf s zone .manager) (z .0), le-ltb 96 (zoneOf s zone .member) (z .1), le-ltb got m fits) (sym n);
+      buffer = λ part. rw (g, e, le-ltb 96 (zoneOf s zone .manager) (z .0), le-ltb 96 (zoneOf s zone .member) (z .1), le-ltb got m fits, n);
+    })
