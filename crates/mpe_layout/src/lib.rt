@@ -6,6 +6,7 @@ ghost use Rattle.ump.specs.Outcome.{given};
 ghost use Rattle.ump.specs.Packet.{packetValue};
 ghost use Rattle.ump.specs.Field.{maskTo};
 ghost use Rattle.mpe_layout.specs.Layout.{legalCounts, legal, ofLegal, layoutOf, membersOf, otherZone, managerOf, active, placeOf, roleAt, roleOf, lowestOf, lowestOrNone, leftBeside, layoutFor, withMcm, layoutMade, membersFound, roleFound, activityFound, lowestFound};
+ghost use Rattle.mpe_layout.specs.declared.ZonePlace.the-variants.{Outside};
 ghost use Rattle.mpe_layout.specs.Reset.{inLower, inUpper, announcementMask, layoutMask, hitBy, named, maskFound};
 
 // One of the two zones (M1-100 2.2.1).
@@ -68,18 +69,14 @@ fn place(members: u8, distance: u8) -> ZonePlace
     ZonePlace::Outside
 }
 
-// The role by the places in the two zones.
-fn role_at(lower: ZonePlace, upper: ZonePlace) -> MpeRole
-    ensures { λ r. ⌜ r ≡ roleAt lower upper ⌝ }
+// The role by the place in Upper of a channel that is outside Lower.
+fn upper_role(upper: ZonePlace) -> MpeRole
+    ensures { λ r. ⌜ r ≡ roleAt Outside upper ⌝ }
 {
-    match lower {
-        ZonePlace::AsManager => MpeRole::Manager(MpeZone::Lower),
-        ZonePlace::AsMember => MpeRole::Member(MpeZone::Lower),
-        ZonePlace::Outside => match upper {
-            ZonePlace::AsManager => MpeRole::Manager(MpeZone::Upper),
-            ZonePlace::AsMember => MpeRole::Member(MpeZone::Upper),
-            ZonePlace::Outside => MpeRole::NoZone,
-        },
+    match upper {
+        ZonePlace::AsManager => MpeRole::Manager(MpeZone::Upper),
+        ZonePlace::AsMember => MpeRole::Member(MpeZone::Upper),
+        ZonePlace::Outside => MpeRole::NoZone,
     }
 }
 
@@ -255,7 +252,12 @@ impl MpeLayout {
         requires { ⌜ channel < 16 ⌝ }
         ensures { λ r. ⌜ r ≡ roleOf self channel ⌝ }
     {
-        role_at(place(self.lower, channel), place(self.upper, 15 - channel))
+        let lower = place(self.lower, channel);
+        match lower {
+            ZonePlace::AsManager => MpeRole::Manager(MpeZone::Lower),
+            ZonePlace::AsMember => MpeRole::Member(MpeZone::Lower),
+            ZonePlace::Outside => upper_role(place(self.upper, 15 - channel)),
+        }
     }
 
     // The role of a channel.

@@ -120,12 +120,15 @@ onMember zone mono lowest opcode a =
     Zone zone false)
     else Zone zone false
 
+-- the channel is that of the zone's lowest member
+abbrev pub isLowestIn : Zones → MpeZone → ℕ → Bool
+isLowestIn z zone channel = isLowest (ofLegal (z .layout) (lowestOrNone zone (membersOf (z .layout) zone))) channel
+
 -- a message by its channel's role, where no parameter event decides
 abbrev pub eventOf : Zones → ℕ → MpeRole → ℕ → ℕ → MpeEvent
 eventOf z channel role.NoZone opcode a = NoZone
 eventOf z channel (role.Manager zone) opcode a = Zone zone true
-eventOf z channel (role.Member zone) opcode a =
-    onMember zone (monoOf z zone) (isLowest (ofLegal (z .layout) (lowestOrNone zone (membersOf (z .layout) zone))) channel) opcode a
+eventOf z channel (role.Member zone) opcode a = onMember zone (monoOf z zone) (isLowestIn z zone channel) opcode a
 
 -- only an event of mode alters the modes: 126 is mono, 127 poly
 abbrev pub modeSet : Zones → MpeEvent → ℕ → Zones

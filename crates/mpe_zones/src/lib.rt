@@ -4,7 +4,7 @@ ghost use Prim.Native.Nat.{_<_, _*_, _+_};
 ghost use Rattle.mpe_layout.specs.Layout.{layoutMade, roleFound, lowestFound};
 ghost use Rattle.mpe_layout.specs.Reset.{maskFound};
 ghost use Rattle.mpe_zones.specs.Zones.{withMono, monoOf, slotOf, sensitivityAt, sensitivityPut, sensitivityOf, activated, activatedIf, roleIn, roleHeld, layoutIn, maskIn, isLowest, laidOut};
-ghost use Rattle.mpe_zones.specs.Told.{saidByRpn, saidByParameter, saidByEvent, saidBy, told, announced, configuredBy, configured, announcing, sensitivityApplied, sensedAs, sensed, sensedEvent, inMode4, modeMessage, onMember, eventOf, modeSet, toldAs, resetIn, changesBy};
+ghost use Rattle.mpe_zones.specs.Told.{saidByRpn, saidByParameter, saidByEvent, saidBy, told, announced, configuredBy, configured, announcing, sensitivityApplied, sensedAs, sensed, sensedEvent, inMode4, modeMessage, isLowestIn, onMember, eventOf, modeSet, toldAs, resetIn, changesBy};
 use mpe_layout::FoundRole;
 use mpe_layout::LowestMember;
 use mpe_layout::MadeLayout;
@@ -240,40 +240,6 @@ fn mode_event(zone: MpeZone, lowest: bool) -> MpeEvent
     }
 }
 
-// A message on a member, by the zone's mode and whether the member is the lowest.
-fn event_on_member(zone: MpeZone, mono: bool, lowest: bool, opcode: u8, first: u8) -> MpeEvent
-    ensures { λ r. ⌜ r ≡ onMember zone mono lowest opcode first ⌝ }
-{
-    if opcode == 0xA {
-        return MpeEvent::Ignored;
-    }
-    if opcode == 0xC {
-        return event_in_mode_4(zone, mono);
-    }
-    if opcode != 0xB {
-        return MpeEvent::Zone {
-            zone,
-            manager: false,
-        };
-    }
-    if first == 0 {
-        return event_in_mode_4(zone, mono);
-    }
-    if first == 32 {
-        return event_in_mode_4(zone, mono);
-    }
-    if first == 126 {
-        return mode_event(zone, lowest);
-    }
-    if first == 127 {
-        return mode_event(zone, lowest);
-    }
-    MpeEvent::Zone {
-        zone,
-        manager: false,
-    }
-}
-
 // RPN 0: the sensitivities after it.
 fn sensitivity_after(l: [u8; 8], role: MpeRole, event: ParameterEvent) -> [u8; 8]
     ensures { λ r. ⌜ r ≡ sensedAs l role event ⌝ }
@@ -479,6 +445,48 @@ impl Zones {
         role_in(layout.role(channel))
     }
 
+    // Controllers 126 and 127 on a member.
+    fn mode_event_on(self, zone: MpeZone, channel: u8) -> MpeEvent
+        ensures { λ r. ⌜ r ≡ modeMessage zone (isLowestIn self zone channel) ⌝ }
+    {
+        let layout = self.layout;
+        mode_event(zone, is_lowest(layout.lowest_member(zone), channel))
+    }
+
+    // A message on a member.
+    fn event_on_member(self, zone: MpeZone, opcode: u8, channel: u8, first: u8) -> MpeEvent
+        ensures { λ r. ⌜ r ≡ onMember zone (monoOf self zone) (isLowestIn self zone channel) opcode first ⌝ }
+    {
+        if opcode == 0xA {
+            return MpeEvent::Ignored;
+        }
+        if opcode == 0xC {
+            return event_in_mode_4(zone, self.is_mono(zone));
+        }
+        if opcode != 0xB {
+            return MpeEvent::Zone {
+                zone,
+                manager: false,
+            };
+        }
+        if first == 0 {
+            return event_in_mode_4(zone, self.is_mono(zone));
+        }
+        if first == 32 {
+            return event_in_mode_4(zone, self.is_mono(zone));
+        }
+        if first == 126 {
+            return self.mode_event_on(zone, channel);
+        }
+        if first == 127 {
+            return self.mode_event_on(zone, channel);
+        }
+        MpeEvent::Zone {
+            zone,
+            manager: false,
+        }
+    }
+
     // A message by its channel's role, where no parameter event decides.
     pub fn event(self, role: MpeRole, opcode: u8, channel: u8, first: u8) -> MpeEvent
         ensures { λ r. ⌜ r ≡ eventOf self channel role opcode first ⌝ }
@@ -489,11 +497,7 @@ impl Zones {
                 zone,
                 manager: true,
             },
-            MpeRole::Member(zone) => {
-                let layout = self.layout;
-                let lowest = is_lowest(layout.lowest_member(zone), channel);
-                event_on_member(zone, self.is_mono(zone), lowest, opcode, first)
-            }
+            MpeRole::Member(zone) => self.event_on_member(zone, opcode, channel, first),
         }
     }
 

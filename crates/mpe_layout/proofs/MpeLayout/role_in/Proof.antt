@@ -1,13 +1,23 @@
--- `mpe_layout::MpeLayout::role_in` meets its contract: the places in the two zones.
+-- `mpe_layout::MpeLayout::role_in` meets its contract: by the place in Lower, and outside of it by the one in Upper.
 -- Assumes nothing.
-use mathlib.Core.Path.{_∙_}
+use mathlib.Core.Path.{ap, sym, _∙_}
 use borrow.Author.Needs.{needs}
 use Rattle.mpe_layout.specs.Layout.{roleAt, roleOf}
+use Rattle.mpe_layout.specs.declared.ZonePlace.the-variants.{Outside}
 use Rattle.mpe_layout.proofs.MpeLayout.role_in.Statement.{statement}
 use Rattle.mpe_layout.proofs.MpeLayout.role_in.Tie as tie
 
 place-requires : tie.Need-place-requires
 place-requires c κs = search needs
+
+enum-told : tie.Need-enum-told
+enum-told c = search needs
+
+enum-told-2 : tie.Need-enum-told-2
+enum-told-2 c = search needs
+
+enum-told-3 : tie.Need-enum-told-3
+enum-told-3 c = search needs
 
 sub-place : tie.Need-sub-place
 sub-place c = search needs
@@ -15,13 +25,35 @@ sub-place c = search needs
 place-requires-2 : tie.Need-place-requires-2
 place-requires-2 c κs = search needs
 
-role-at-requires : tie.Need-role-at-requires
-role-at-requires c κs = search needs
+upper-role-requires : tie.Need-upper-role-requires
+upper-role-requires c κs = search needs
 
 returns : tie.Need-returns
 unfolding roleOf
-returns c = c .role-at .ensures ∙ (λ i. roleAt (c .before .before .place .ensures i) (c .before .place2 .ensures i))
+returns c = rw (sym (c .before .before .place .ensures) ∙ c .enum-told .given .1)
+
+returns-2 : tie.Need-returns-2
+unfolding roleOf
+returns-2 c = rw (sym (c .before .before .place .ensures) ∙ c .enum-told2 .given .1)
+
+returns-3 : tie.Need-returns-3
+unfolding roleOf
+returns-3 c =
+    let told = c .before .before in
+    rw (sym (told .before .before .place .ensures) ∙ told .enum-told3 .given .1)
+    (c .upper-role .ensures ∙ ap (roleAt Outside) (c .before .place2 .ensures))
 
 pub role-in-spec : {M : Type 1} → statement M
 role-in-spec =
-    tie.close (tie.spec place-requires sub-place place-requires-2 role-at-requires returns)
+    tie.close
+    (tie.spec
+    place-requires
+    enum-told
+    enum-told-2
+    enum-told-3
+    sub-place
+    place-requires-2
+    upper-role-requires
+    returns
+    returns-2
+    returns-3)
