@@ -8,22 +8,21 @@ use native.Mathlib.Nat.{zero-div}
 use lib.Dec.{eqb}
 use Rattle.ump.specs.Choice.{if_then_else_}
 use Rattle.ump.specs.Outcome.{given, outOfRange}
+use Rattle.ump.specs.Word.{opcodeOf, channelOf, firstOf, secondOf}
 use Rattle.ump.proofs.Cases.{of-both}
 use Rattle.parameters.specs.declared.MaybeEvent.{MaybeEvent}
 use Rattle.parameters.specs.declared.MaybeEvent.the-variants.{NoEvent}
 use Rattle.mpe_layout.specs.declared.MpeLayout.{MpeLayout}
-use Rattle.mpe_layout.specs.declared.MpeRole.{MpeRole}
 use Rattle.mpe_layout.specs.Layout.{legal}
 use Rattle.mpe_layout.specs.Reset.{named}
-use Rattle.mpe_zones.specs.declared.MpeEvent.{MpeEvent}
 use Rattle.mpe_zones.specs.declared.Told.{Told}
 use Rattle.mpe_zones.specs.declared.Zones.{Zones}
 use Rattle.mpe_zones.specs.Zones.{roleHeld, laidOut, layoutResets}
-use Rattle.mpe_zones.specs.Told.{saidBy, toldAs, messageTold, eventOf, resetIn}
+use Rattle.mpe_zones.specs.Told.{messageTold, eventOf, resetIn}
 use Rattle.mpe_zones.proofs.Kept.{NoMode, none-reset, zones-kept, quiet-event}
 use Rattle.mpe_receiver.specs.declared.MpeReceiver.{MpeReceiver}
 use Rattle.mpe_receiver.specs.State.{zonesOf, withZones}
-use Rattle.mpe_receiver.specs.Receive.{hearing, stored, putWhere, restUpto, toldTo, heardOf, setReply, setState}
+use Rattle.mpe_receiver.specs.Receive.{hearing, stored, putWhere, restUpto, toldTo, heardOf, wordHeard, settled, setReply, setState}
 
 module _ (r : MpeReceiver) where
   abbrev Same : MpeReceiver → Type 0
@@ -56,17 +55,18 @@ pub chosen : {A : Type 0} {b : Bool} (x y : A) → b ≡ true → (if b then x e
 chosen x y p = ap (λ t. if t then x else y) p
 
 -- a message by the calls that make it
-pub heard-told : (self : MpeReceiver) (e : MaybeEvent) (opcode channel a b : ℕ) {z : Zones} {ro : MpeRole} {plain : MpeEvent} {t : Told} {s w r : MpeReceiver}
+pub heard-settled : (self : MpeReceiver) (e : MaybeEvent) (w : ℕ) {z : Zones} {o k a : ℕ} {t : Told} {r : MpeReceiver}
     → z ≡ zonesOf self
-    → ro ≡ roleHeld (z .layout) channel
-    → plain ≡ eventOf z channel ro opcode a
-    → t ≡ toldAs z channel ro plain (saidBy opcode e) a
-    → s ≡ stored self opcode channel a b
-    → w ≡ withZones s (t .zones)
-    → r ≡ restUpto w (resetIn (t .event)) 16
-    → hearing r (t .event) ≡ heardOf self e opcode channel a b
+    → o ≡ opcodeOf w
+    → k ≡ channelOf w
+    → a ≡ firstOf w
+    → t ≡ messageTold z e o k a
+    → r ≡ settled self (t .zones) w (t .event)
+    → hearing r (t .event) ≡ wordHeard self e w
 unfolding heardOf
-heard-told self e opcode channel a b pz pr pp pt ps pw p = cc
+heard-settled self e w {z} {o} {k} {a} {t} pz po pk pa pt p =
+    let told = pt ∙ (λ i. messageTold (pz i) e (po i) (pk i) (pa i)) in
+    ap (λ x. hearing x (t .event)) p ∙ ap (toldTo (stored self (opcodeOf w) (channelOf w) (firstOf w) (secondOf w))) told
 
 -- a layout that is set, likewise
 pub set-told : (self : MpeReceiver) (l : MpeLayout) {mask : ℕ} {z y : Zones} {w r : MpeReceiver} → legal l ≡ true

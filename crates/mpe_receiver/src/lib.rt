@@ -4,7 +4,7 @@ ghost use Prim.Native.Nat.{_<_};
 ghost use Rattle.mpe_layout.specs.Reset.{maskFound};
 ghost use Rattle.mpe_zones.specs.Told.{resetIn};
 ghost use Rattle.mpe_receiver.specs.State.{newReceiver, zonesOf, withZones};
-ghost use Rattle.mpe_receiver.specs.Receive.{stored, restUpto, heardOf, replyRead, receivedReply, receivedState, setReply, setState, settlesBy, settled};
+ghost use Rattle.mpe_receiver.specs.Receive.{stored, restUpto, wordHeard, replyRead, receivedReply, receivedState, setReply, setState, settlesBy, settled};
 ghost use Rattle.mpe_receiver.specs.Read.{modeOf, sensitivityOf, bendAt, pressureAt, brightnessAt, managerOffset, memberOffset, offsetByRole, offsetOf, offsetRead};
 use mpe_layout::MpeLayout;
 use mpe_layout::MpeRole;
@@ -194,19 +194,15 @@ impl MpeReceiver {
         s.with_zones(zones).rest_by(event)
     }
 
-    // A message whose fields are cut.
-    fn hear(self, parameter: MaybeEvent, opcode: u8, channel: u8, first: u8, second: u8) -> Heard
-        requires { ⌜ channel < 16 ⌝ }
-        ensures { λ r. ⌜ r ≡ heardOf self parameter opcode channel first second ⌝ }
+    // A word that is a message: the zones hear it, and the receiver is settled with their event.
+    fn hear(self, parameter: MaybeEvent, word: u32) -> Heard
+        ensures { λ r. ⌜ r ≡ wordHeard self parameter word ⌝ }
     {
-        let zones = self.zones();
-        let role = zones.role(channel);
-        let plain = zones.event(role, opcode, channel, first);
-        let t = zones.tell(parameter, role, plain, opcode, channel, first);
-        let after = t.zones;
+        let t = self.zones()
+            .hear(parameter, opcode(word), channel(word), first_data(word));
+        let zones = t.zones;
         let event = t.event;
-        let stored = self.store(opcode, channel, first, second);
-        let r = stored.with_zones(after).rest_by(event);
+        let r = self.settle(zones, word, event);
         Heard { receiver: r, event }
     }
 
@@ -216,13 +212,7 @@ impl MpeReceiver {
         ensures state { λ r. ⌜ r .receiver ≡ receivedState self word parameter ⌝ }
     {
         if is_message(word) {
-            let h = self.hear(
-                parameter,
-                opcode(word),
-                channel(word),
-                first_data(word),
-                second_data(word),
-            );
+            let h = self.hear(parameter, word);
             let s = h.receiver;
             let e = h.event;
             return Received {

@@ -4,7 +4,7 @@ use mathlib.Core.Path.{_≡_, refl}
 use mathlib.Core.Bool.{Bool, true, false}
 use mathlib.Core.List.{[], _∷_}
 use mathlib.Core.Logic.{⊎-elim}
-use Prim.Native.Nat.{ℕ, _+_, _≤_}
+use Prim.Native.Nat.{ℕ, _+_, _<_, _≤_}
 use native.Mathlib.Omega.{arith}
 use lib.Dec.{eqb}
 use types.Run.{OneOf}
@@ -60,3 +60,6 @@ inactive l zone o e = refused (legal l) (eqb (membersOf l zone) 0) (lowestOf l z
 pub members-in : (l : MpeLayout) (zone : MpeZone) → legal l ≡ true → lowestOf l zone + membersOf l zone ≤ 16
 members-in l Lower h = omega (arith, members-le l Lower h)
 members-in l Upper h = omega (arith, members-le l Upper h)
+
+pub lowest-lt : (l : MpeLayout) (zone : MpeZone) → legal l ≡ true → 0 < membersOf l zone → lowestOf l zone < 16
+lowest-lt l zone h some = omega (arith, members-in l zone h)

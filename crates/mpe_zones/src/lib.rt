@@ -4,7 +4,7 @@ ghost use Prim.Native.Nat.{_<_, _*_, _+_};
 ghost use Rattle.mpe_layout.specs.Layout.{layoutMade, roleFound, lowestFound};
 ghost use Rattle.mpe_layout.specs.Reset.{maskFound};
 ghost use Rattle.mpe_zones.specs.Zones.{withMono, monoOf, slotOf, sensitivityAt, sensitivityPut, sensitivityOf, activated, activatedIf, roleIn, roleHeld, layoutIn, maskIn, isLowest, laidOut};
-ghost use Rattle.mpe_zones.specs.Told.{saidByRpn, saidByParameter, saidByEvent, saidBy, told, announced, configuredBy, configured, announcing, sensitivityApplied, sensedAs, sensed, sensedEvent, inMode4, modeMessage, isLowestIn, onMember, eventOf, modeSet, toldAs, resetIn, changesBy};
+ghost use Rattle.mpe_zones.specs.Told.{saidByRpn, saidByParameter, saidByEvent, saidBy, told, announced, configuredBy, configured, announcing, sensitivityApplied, sensedAs, sensed, sensedEvent, inMode4, modeMessage, isLowestIn, onMember, eventOf, modeSet, toldAs, messageTold, resetIn, changesBy};
 use mpe_layout::FoundRole;
 use mpe_layout::LowestMember;
 use mpe_layout::MadeLayout;
@@ -554,5 +554,14 @@ impl Zones {
             Said::Configuration(change) => self.mcm(channel, change),
             Said::BendSensitivity(event) => self.sense(role, event),
         }
+    }
+
+    // The zones after a message whose fields are cut, with the event that its channel's parameters gave for it.
+    pub fn hear(self, parameter: MaybeEvent, opcode: u8, channel: u8, first: u8) -> Told
+        ensures { λ r. ⌜ r ≡ messageTold self parameter opcode channel first ⌝ }
+    {
+        let role = self.role(channel);
+        let plain = self.event(role, opcode, channel, first);
+        self.tell(parameter, role, plain, opcode, channel, first)
     }
 }

@@ -68,26 +68,46 @@ pub(crate) fn reading(line: Line, rpn_on: bool, nrpn_on: bool, selection: Select
     }
 }
 
+// Answers item 30.
+fn apply(item: &[u8; 80]) -> Line {
+    let e = ParameterEvent {
+        parameter: arguments::parameter(item[1], item[2], item[3]),
+        change: arguments::change(item[4], item[5]),
+    };
+    Line::one(e.apply(arguments::two(item[6], item[7])) as u32)
+}
+
+// Answers item 31.
+fn select(item: &[u8; 80]) -> Line {
+    let p = arguments::parameter(item[2], item[3], item[4]);
+    Line::of_two_words(select_messages(item[1], p))
+}
+
+// Answers item 32.
+fn change_by(item: &[u8; 80]) -> Line {
+    let c = arguments::change(item[2], item[3]);
+    Line::of_message(change_message(item[1], c))
+}
+
+// Answers item 33.
+fn value(item: &[u8; 80]) -> Line {
+    let p = arguments::parameter(item[2], item[3], item[4]);
+    Line::of_four_words(value_messages(item[1], p, arguments::two(item[5], item[6])))
+}
+
 // Answers an item of 30 to 33, which has no state.
 pub(crate) fn answer(item: &[u8; 80]) -> Line {
     let operation = item[0];
     if operation == 0x30 {
-        let e = ParameterEvent {
-            parameter: arguments::parameter(item[1], item[2], item[3]),
-            change: arguments::change(item[4], item[5]),
-        };
-        return Line::one(e.apply(arguments::two(item[6], item[7])) as u32);
+        return apply(item);
     }
     if operation == 0x31 {
-        let p = arguments::parameter(item[2], item[3], item[4]);
-        return Line::of_two_words(select_messages(item[1], p));
+        return select(item);
     }
     if operation == 0x32 {
-        let c = arguments::change(item[2], item[3]);
-        return Line::of_message(change_message(item[1], c));
+        return change_by(item);
     }
-    let p = arguments::parameter(item[2], item[3], item[4]);
-    Line::of_four_words(value_messages(item[1], p, arguments::two(item[5], item[6])))
+    value(item)
 }
 
 // The parameter state after an item that answers nothing.
@@ -104,27 +124,37 @@ fn changed(state: ParameterState, operation: u8, on: bool) -> ParameterState {
     state.set_nrpn_reception(on)
 }
 
+// Answers item 35.
+fn receive(state: ParameterState, word: u32) -> ParameterTold {
+    let received = state.receive(word);
+    let next = received.state;
+    let r = received.reply;
+    ParameterTold {
+        state: next,
+        line: reply(r),
+    }
+}
+
+// Answers item 39.
+fn reading_of(state: ParameterState) -> Line {
+    reading(
+        Line::new(),
+        state.rpn_reception(),
+        state.nrpn_reception(),
+        state.selection(),
+    )
+}
+
 // Answers an item of 34 to 39, on a parameter state.
 pub(crate) fn state_answer(state: ParameterState, item: &[u8; 80]) -> ParameterTold {
     let operation = item[0];
     if operation == 0x35 {
-        let received = state.receive(arguments::four(item[1], item[2], item[3], item[4]));
-        let next = received.state;
-        let r = received.reply;
-        return ParameterTold {
-            state: next,
-            line: reply(r),
-        };
+        return receive(state, arguments::four(item[1], item[2], item[3], item[4]));
     }
     if operation == 0x39 {
         return ParameterTold {
             state,
-            line: reading(
-                Line::new(),
-                state.rpn_reception(),
-                state.nrpn_reception(),
-                state.selection(),
-            ),
+            line: reading_of(state),
         };
     }
     ParameterTold {

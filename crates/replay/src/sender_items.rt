@@ -60,6 +60,21 @@ fn class_answer(item: &[u8; 80]) -> Line {
     class(mpe_class(kind(item[1]), item[2] != 0, item[3] != 0, item[4] != 0))
 }
 
+// Answers item 54.
+fn mode(item: &[u8; 80]) -> Line {
+    let layout = MpeLayout {
+        lower: item[1],
+        upper: item[2],
+    };
+    Line::of_message(mode_message(layout, arguments::zone(item[3]), item[4] != 0))
+}
+
+// Answers item 55.
+fn note(item: &[u8; 80]) -> Line {
+    let bend = arguments::two(item[4], item[5]);
+    Line::of_four_words(note_messages(item[1], item[2], item[3], bend, item[6], item[7]))
+}
+
 // Answers an item but 53.
 pub(crate) fn answer(item: &[u8; 80]) -> Line {
     let operation = item[0];
@@ -73,14 +88,9 @@ pub(crate) fn answer(item: &[u8; 80]) -> Line {
         return Line::of_three_words(sensitivity_messages(item[1], item[2]));
     }
     if operation == 0x54 {
-        let layout = MpeLayout {
-            lower: item[1],
-            upper: item[2],
-        };
-        return Line::of_message(mode_message(layout, arguments::zone(item[3]), item[4] != 0));
+        return mode(item);
     }
-    let bend = arguments::two(item[4], item[5]);
-    Line::of_four_words(note_messages(item[1], item[2], item[3], bend, item[6], item[7]))
+    note(item)
 }
 
 // The length of item 53's buffer: an item with a larger one is not answered.

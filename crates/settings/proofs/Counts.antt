@@ -1,9 +1,10 @@
 -- How many messages a restatement has, and how many bytes.
 -- Assumes nothing.
 use Prim.Native.Nat.{ℕ, zero, suc, _+_, _*_, _<_, _≤_}
-use mathlib.Core.Path.{_≡_, refl, ap, _∙_}
+use mathlib.Core.Path.{_≡_, refl, ap, ap₂, sym, _∙_}
 use mathlib.Core.Bool.{true, false}
-use mathlib.Core.List.{append-nil}
+use mathlib.Core.List.{List, append-nil}
+use native.Mathlib.Nat.{suc-mul}
 use native.Mathlib.Numerals.{add-one}
 use native.Mathlib.Omega.{arith}
 use lib.Dec.{eqb}
@@ -17,14 +18,19 @@ use Rattle.mpe_layout.specs.declared.MpeLayout.{MpeLayout}
 use Rattle.mpe_layout.proofs.Legal.{members-le, both-le}
 use Rattle.mpe_sender.specs.Zone.{channelAt, semitonesAt, zoneGroups, groupAt, groups, InRange}
 use Rattle.mpe_sender.proofs.Groups.{manager-lt, groups-length, channel-lt, semitones-le}
-use Rattle.mpe_sender.proofs.Zones.{members-in}
+use Rattle.mpe_sender.proofs.Zones.{members-in, lowest-lt}
 use Rattle.settings.specs.Settings.{zoneOf, membersIn, isMono, bendOf, pressureOf, brightnessOf, allowed}
-use Rattle.settings.specs.Messages.{resetOn, resets, announcement, announcements, sensitivities, modes, deselectionOn, deselections, controlsOn, controls, messages, bytesOf, bytes, restatement, oneIfAny, messageCount, byteCount, CountsHold}
+use Rattle.settings.specs.Messages.{eachChannel, resetOn, resets, announcement, announcements, sensitivities, modes, deselectionOn, deselections, controlsOn, controls, messages, bytesOf, bytes, restatement, oneIfAny, messageCount, byteCount, CountsHold}
 use Rattle.settings.specs.declared.Settings.{Settings}
 use Rattle.settings.proofs.Allowed.{allowed-legal, allowed-zone, allowed-channel}
-use Rattle.settings.proofs.Sets.{each-length}
-use Rattle.settings.proofs.Made.{lowest-lt}
 use Rattle.settings.proofs.Bytes.{control-bytes, group-bytes, append-length, each-bytes, bend-bytes, pressure-bytes}
+
+-- so many messages for each channel
+pub each-length : (f : ℕ → List ℕ) (m : ℕ) → ((k : ℕ) → length (f k) ≡ m) → (n : ℕ) → length (eachChannel f n) ≡ n * m
+unfolding eachChannel
+each-length f m h zero = omega arith
+each-length f m h (suc n) =
+    length-append (eachChannel f n) (f n) ∙ ap₂ (λ x y. x + y) (each-length f m h n) (h n) ∙ sym (suc-mul n m)
 
 pub one-le : (members : ℕ) → oneIfAny members ≤ 1
 one-le members = by-test (eqb members 0) (λ e. rw e (omega arith)) (λ e. rw e (omega arith))

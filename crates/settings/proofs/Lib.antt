@@ -1,8 +1,6 @@
--- Laws that proofs of this crate cite: of the writers, and then of what an end makes of a restatement.
+-- Laws of settings and of the messages that restate them, and then of what an end makes of these.
 pub mod Allowed
-pub mod Sets
 pub mod Bytes
-pub mod Made
 pub mod Counts
 pub mod Told
 pub mod Stage

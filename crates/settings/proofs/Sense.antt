@@ -34,7 +34,7 @@ use Rattle.mpe_receiver.specs.Receive.{stored, heardOf}
 use Rattle.mpe_sender.specs.Writers.{controlWord, sensitivityGroup}
 use Rattle.mpe_sender.specs.Zone.{zoneGroups, channelAt, semitonesAt, groupAt, groups, zoneWords}
 use Rattle.mpe_sender.proofs.Groups.{manager-lt}
-use Rattle.mpe_sender.proofs.Zones.{members-in}
+use Rattle.mpe_sender.proofs.Zones.{members-in, lowest-lt}
 use Rattle.receiving_end.specs.declared.end.End.{End}
 use Rattle.byte_reader.specs.Reader.{readerAt}
 use Rattle.receiving_end.specs.End.{withReader, withReceiver, withParameter, parameterAt}
@@ -45,7 +45,6 @@ use Rattle.settings.specs.declared.Settings.{Settings}
 use Rattle.settings.specs.Settings.{zoneOf, membersIn, isMono, allowed}
 use Rattle.settings.specs.Messages.{bytes, sensitivities, modes}
 use Rattle.settings.proofs.Allowed.{allowed-legal, allowed-zone}
-use Rattle.settings.proofs.Made.{lowest-lt}
 use Rattle.settings.proofs.Bytes.{group-bytes}
 use Rattle.settings.proofs.Told.{told-all, told-append, control-all, heard-formed}
 use Rattle.settings.proofs.Stage.{cleared-with, Stage, stage-at}

@@ -11,7 +11,7 @@ use Rattle.settings.specs.Settings.{allowed}
 use Rattle.settings.specs.Messages.{messages, bytes, restatement, messageCount, byteCount, restatedReply}
 use Rattle.settings.specs.Demand.{Demand}
 use Rattle.settings.proofs.Allowed.{allowed-legal}
-use Rattle.settings.proofs.Sets.{sets-front, take-front}
+use Rattle.restatement.proofs.Sets.{sets-front, take-front}
 use Rattle.settings.proofs.Counts.{message-count, most-messages, byte-count}
 use Rattle.settings.proofs.Demand.{demand-holds}
 use borrow.Author.Needs.{needs}

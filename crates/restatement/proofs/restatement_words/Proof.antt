@@ -8,7 +8,7 @@ use lib.ListN.{length, drop}
 use borrow.Author.Tests.{not-true, not-false, lt-ltb, le-ltb}
 use Rattle.settings.specs.Settings.{allowed}
 use Rattle.settings.specs.Messages.{messages, messageCount, restatedReply}
-use Rattle.settings.proofs.Sets.{sets-front}
+use Rattle.restatement.proofs.Sets.{sets-front}
 use Rattle.settings.proofs.Counts.{message-count}
 use borrow.Author.Needs.{needs}
 use native.Mathlib.Omega.{arith}

@@ -7,8 +7,8 @@ use lib.Seq.{sets}
 use Rattle.mpe_layout.specs.declared.MpeZone.the-variants.{Lower, Upper}
 use Rattle.mpe_layout.proofs.Legal.{members-le}
 use Rattle.settings.specs.Messages.{announcement}
-use Rattle.settings.proofs.Sets.{chain}
-use Rattle.settings.proofs.Made.{announcement-made}
+use Rattle.restatement.proofs.Sets.{chain}
+use Rattle.restatement.proofs.Made.{announcement-made}
 use borrow.Author.Needs.{needs}
 use native.Mathlib.Omega.{arith}
 use Rattle.restatement.proofs.write_announcements.Statement.{statement}

@@ -5,7 +5,7 @@ use mathlib.Core.Path.{_≡_, refl, ap, _∙_}
 use lib.ListN.{length, take, getD, length-append}
 use lib.Seq.{sets, length-sets}
 use Rattle.settings.specs.Messages.{bytesOf, bytes}
-use Rattle.settings.proofs.Sets.{chain}
+use Rattle.restatement.proofs.Sets.{chain}
 use Rattle.settings.proofs.Bytes.{bytes-more, bytes-within}
 use native.Mathlib.Omega.{arith}
 use Rattle.restatement.proofs.write_bytes.Statement.{statement}

@@ -5,8 +5,8 @@ use mathlib.Core.Path.{_≡_, refl, ap, _∙_}
 use lib.ListN.{length}
 use lib.Seq.{sets, length-sets}
 use Rattle.settings.specs.Messages.{eachChannel, deselectionOn}
-use Rattle.settings.proofs.Sets.{turn, ended}
-use Rattle.settings.proofs.Made.{control-made}
+use Rattle.restatement.proofs.Sets.{turn, ended}
+use Rattle.restatement.proofs.Made.{control-made}
 use borrow.Author.Needs.{needs}
 use native.Mathlib.Omega.{arith}
 use Rattle.restatement.proofs.write_deselections.Statement.{statement}

@@ -5,7 +5,7 @@ use Prim.Native.Nat.{_+_}
 use Rattle.mpe_layout.specs.declared.MpeZone.the-variants.{Lower, Upper}
 use Rattle.settings.specs.Messages.{resets, announcements, sensitivities, modes, deselections, controls, messages}
 use Rattle.settings.proofs.Allowed.{allowed-legal}
-use Rattle.settings.proofs.Sets.{Front, more}
+use Rattle.restatement.proofs.Sets.{Front, more}
 use Rattle.settings.proofs.Counts.{resets-length, deselections-length, controls-length, parts-count}
 use borrow.Author.Needs.{needs}
 use native.Mathlib.Omega.{arith}

@@ -8,7 +8,7 @@ use lib.Seq.{sets}
 use Rattle.ump.specs.Outcome.{allOf}
 use Rattle.ump.specs.Word.{messageMade}
 use Rattle.settings.specs.Messages.{modes, wordsIn}
-use Rattle.settings.proofs.Made.{mode-made}
+use Rattle.restatement.proofs.Made.{mode-made}
 use borrow.Author.Needs.{needs}
 use Rattle.restatement.proofs.write_mode.Statement.{statement}
 use Rattle.restatement.proofs.write_mode.Tie as tie

@@ -1,52 +1,48 @@
--- `mpe_receiver::MpeReceiver::hear` meets its contract.
+-- `mpe_receiver::MpeReceiver::hear` meets its contract: the zones hear the message, and the receiver is settled with their event.
 -- Assumes nothing.
 use borrow.Author.Needs.{needs}
-use Rattle.mpe_receiver.proofs.Parts.{heard-told}
+use Rattle.mpe_receiver.proofs.Parts.{heard-settled}
 use Rattle.mpe_receiver.proofs.MpeReceiver.hear.Statement.{statement}
 use Rattle.mpe_receiver.proofs.MpeReceiver.hear.Tie as tie
 
 zones-requires : tie.Need-zones-requires
 zones-requires c κs = search needs
 
-role-requires : tie.Need-role-requires
-role-requires c κs = search needs
+opcode-requires : tie.Need-opcode-requires
+opcode-requires c κs = search needs
 
-event-requires : tie.Need-event-requires
-event-requires c κs = search needs
+channel-requires : tie.Need-channel-requires
+channel-requires c κs = search needs
 
-tell-requires : tie.Need-tell-requires
-tell-requires c κs = search needs
+first-data-requires : tie.Need-first-data-requires
+first-data-requires c κs = search needs
 
-store-requires : tie.Need-store-requires
-store-requires c κs = search needs
+hear-requires : tie.Need-hear-requires
+hear-requires c κs = search needs
 
-with-zones-requires : tie.Need-with-zones-requires
-with-zones-requires c κs = search needs
-
-rest-by-requires : tie.Need-rest-by-requires
-rest-by-requires c κs = search needs
+settle-requires : tie.Need-settle-requires
+settle-requires c κs = search needs
 
 returns : tie.Need-returns
 returns c =
-    let a = c .before .before .before .before .before .before .before .before .args in
-    heard-told (a .self) (a .parameter) (a .opcode) (a .channel) (a .first) (a .second)
-    (c .before .before .before .before .before .before .before .zones .ensures)
-    (c .before .before .before .before .before .before .role .ensures)
-    (c .before .before .before .before .before .event .ensures)
-    (c .before .before .before .before .tell .ensures)
-    (c .before .before .store .ensures)
-    (c .before .with-zones .ensures)
-    (c .rest-by .ensures)
+    let h = c .before .before in
+    let a = h .before .before .before .before .before .args in
+    heard-settled (a .self) (a .parameter) (a .word)
+    (h .before .before .before .before .zones .ensures)
+    (h .before .before .before .opcode .ensures)
+    (h .before .before .channel .ensures)
+    (h .before .first-data .ensures)
+    (h .hear .ensures)
+    (c .settle .ensures)
 
 pub hear-spec : {M : Type 1} → statement M
 hear-spec =
     tie.close
     (tie.spec
     zones-requires
-    role-requires
-    event-requires
-    tell-requires
-    store-requires
-    with-zones-requires
-    rest-by-requires
+    opcode-requires
+    channel-requires
+    first-data-requires
+    hear-requires
+    settle-requires
     returns)

@@ -21,11 +21,11 @@ use Rattle.mpe_layout.proofs.Legal.{members-le}
 use Rattle.mpe_sender.specs.Writers.{controlWord, mcmMessages, modeOn, modeMessage, groupSize}
 use Rattle.mpe_sender.specs.Zone.{zoneGroups, zoneWords, fillReply, zoneReply, filled}
 use Rattle.mpe_sender.proofs.Groups.{groups-length}
-use Rattle.mpe_sender.proofs.Zones.{members-in}
+use Rattle.mpe_sender.proofs.Zones.{lowest-lt}
 use Rattle.settings.specs.Settings.{zoneOf, membersIn, isMono, bendOf, pressureOf, brightnessOf, allowed}
 use Rattle.settings.specs.Messages.{announcement, sensitivities, modes, controlsOn, wordsIn, countIn}
 use Rattle.settings.specs.declared.Settings.{Settings}
 use Rattle.settings.proofs.Allowed.{allowed-legal, allowed-zone, allowed-channel}
 
 pub control-made : (k controller value : ℕ) → k < 16 → controller ≤ 0x7F → value ≤ 0x7F → controlChange k controller value ≡ given (controlWord k controller value)
 unfolding twoDataWord
@@ -49,10 +49,6 @@ controls-made s k h l =
 pub announcement-made : (zone : MpeZone) (members : ℕ) → members ≤ 15 → wordsIn (mcmMessages zone members) ≡ announcement zone members
 unfolding mcmMessages
 announcement-made zone members h = rw (le-ltb 15 members h)
-
--- the lowest member is a channel
-pub lowest-lt : (l : MpeLayout) (zone : MpeZone) → legal l ≡ true → 0 < membersOf l zone → lowestOf l zone < 16
-lowest-lt l zone h some = omega (arith, members-in l zone h)
 
 mode-on : (s : Settings) (zone : MpeZone) (mono : Bool) → legal (s .layout) ≡ true → 0 < membersIn s zone
     → modeOn (lowestOf (s .layout) zone) (membersIn s zone) mono

@@ -9,18 +9,13 @@ use native.Mathlib.Nat.{le-refl, suc-mul, zero-add}
 use lib.ListN.{length, take, drop, set, length-append, length-drop}
 use lib.Seq.{sets, sets-eq, take-at, take-all, drop-drop, drop-length}
 use borrow.Rule.Slice.PartMut.{midOf, putMid, post-is}
 use Rattle.settings.specs.Messages.{eachChannel}
+use Rattle.settings.proofs.Counts.{each-length}
 
 -- stores right behind others are one run
 pub sets-append : (l : List ℕ) (i : ℕ) (u v : List ℕ) (j : ℕ) → i + length u ≡ j → sets (sets l i u) j v ≡ sets l i (u ++ v)
 sets-append l i [] v j h = ap (λ k. sets l k v) (omega arith)
 sets-append l i (a ∷ u) v j h = sets-append (set l i a) (suc i) u v j (omega arith)
-
-pub each-length : (f : ℕ → List ℕ) (m : ℕ) → ((k : ℕ) → length (f k) ≡ m) → (n : ℕ) → length (eachChannel f n) ≡ n * m
-unfolding eachChannel
-each-length f m h zero = omega arith
-each-length f m h (suc n) =
-    length-append (eachChannel f n) (f n) ∙ ap₂ (λ x y. x + y) (each-length f m h n) (h n) ∙ sym (suc-mul n m)
 
 -- one more turn of a loop that writes f 0, f 1, ..
 pub turn : (f : ℕ → List ℕ) (m : ℕ) → ((k : ℕ) → length (f k) ≡ m) → (o : List ℕ) {x y : List ℕ} (at k j : ℕ)

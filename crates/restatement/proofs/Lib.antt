@@ -1,0 +1,3 @@
+-- Laws that the writers' proofs cite.
+mod Sets
+mod Made
