@@ -39,7 +39,7 @@ roleFor zone false = role.Member zone
 abbrev pub rpnZero : Zones → MpeZone → Bool → ParameterEvent → Zones
 rpnZero z zone manager e = sensed z (roleFor zone manager) e .zones
 
-applied-to : (z : Zones) (zone : MpeZone) (manager : Bool) (e : ParameterEvent)
+pub applied-to : (z : Zones) (zone : MpeZone) (manager : Bool) (e : ParameterEvent)
     → rpnZero z zone manager e ≡ withSensitivities z (sensitivityApplied (z .sensitivity) (slotOf zone manager) e)
 applied-to z zone true e = refl
 applied-to z zone false e = refl

@@ -9,7 +9,7 @@ ghost use Rattle.mpe_layout.specs.Reset.{maskFound};
 ghost use Rattle.mpe_receiver.specs.Receive.{setReply};
 ghost use Rattle.mpe_receiver.specs.Read.{modeOf, sensitivityOf, bendAt, pressureAt, brightnessAt, offsetOf, offsetRead};
 ghost use Rattle.receiving_end.specs.Lists.{heard};
-ghost use Rattle.receiving_end.specs.End.{newEnd, parameterAt, eventIn, mpeIn, messageAt, messageStep, answerStep, stepReply, stepEnd, withParameter, laidOutEnd, rpnSwitchedAt, nrpnSwitchedAt};
+ghost use Rattle.receiving_end.specs.End.{newEnd, parameterAt, eventIn, mpeIn, stepped, messageAt, messageStep, answerStep, stepReply, stepEnd, withParameter, laidOutEnd, rpnSwitchedAt, nrpnSwitchedAt};
 use byte_reader::Read;
 use byte_reader::Reader;
 use mpe_layout::MpeLayout;
@@ -70,12 +70,18 @@ fn mpe_in(reply: mpe_receiver::Reply) -> MpeEvent
     }
 }
 
+fn replying(end: End, reply: Reply) -> Stepped
+    ensures { λ r. ⌜ r ≡ stepped end reply ⌝ }
+{
+    Stepped { end, reply }
+}
+
 // A message of channel k: its parameters hear it first, and the receiver gets their event.
 fn message_at(end: End, k: usize, word: u32) -> Stepped
     requires { ⌜ k < 16 ⌝ }
     ensures { λ r. ⌜ r ≡ messageAt end k word ⌝ }
 {
-    let p = end.parameters[k];
+    let p = end.parameter(k);
     let heard = p.receive(word);
     let state = heard.state;
     let said = heard.reply;
@@ -84,13 +90,9 @@ fn message_at(end: End, k: usize, word: u32) -> Stepped
     let next = got.receiver;
     let answered = got.reply;
     let event = mpe_in(answered);
-    let mut n = end;
-    n.parameters[k] = state;
+    let mut n = end.with_parameter(k, state);
     n.receiver = next;
-    Stepped {
-        end: n,
-        reply: Reply::Message(word, event),
-    }
+    replying(n, Reply::Message(word, event))
 }
 
 fn message(end: End, word: u32) -> Stepped
@@ -106,18 +108,9 @@ fn answer(end: End, next: Reader, read: Read) -> Stepped
     let mut n = end;
     n.reader = next;
     match read {
-        Read::Quiet => Stepped {
-            end: n,
-            reply: Reply::Quiet,
-        },
-        Read::Dropped => Stepped {
-            end: n,
-            reply: Reply::Dropped,
-        },
-        Read::RealTime(b) => Stepped {
-            end: n,
-            reply: Reply::RealTime(b),
-        },
+        Read::Quiet => replying(n, Reply::Quiet),
+        Read::Dropped => replying(n, Reply::Dropped),
+        Read::RealTime(b) => replying(n, Reply::RealTime(b)),
         Read::Message(word) => message(n, word),
     }
 }

@@ -25,9 +25,9 @@ use Rattle.mpe_layout.proofs.Legal.{members-le}
 use Rattle.mpe_layout.proofs.Roles.{manager-role, member-role, lowest-role}
 use Rattle.mpe_zones.specs.declared.Zones.{Zones}
 use Rattle.mpe_zones.specs.Zones.{withSensitivities, withMono, slotOf, sensitivityPut, roleHeld, isLowest}
-use Rattle.mpe_zones.specs.Told.{onMember, eventOf, modeMessage, modeSet}
+use Rattle.mpe_zones.specs.Told.{sensitivityApplied, onMember, eventOf, modeMessage, modeSet}
 use Rattle.mpe_zones.specs.Told as zones
-use Rattle.mpe_zones.proofs.Kept.{roleFor, rpnZero}
+use Rattle.mpe_zones.proofs.Kept.{applied-to, roleFor, rpnZero}
 use Rattle.mpe_receiver.specs.declared.MpeReceiver.{MpeReceiver}
 use Rattle.mpe_receiver.specs.State.{zonesOf}
 use Rattle.mpe_receiver.specs.Receive.{stored, heardOf}
@@ -53,16 +53,17 @@ held : (l : MpeLayout) (k : ℕ) → legal l ≡ true → k < 16 → roleHeld l 
 held l k h hk = let m : k % 16 ≡ k = omega arith in rw (h, m)
 
 -- RPN 0 with a data entry
+entry-put : (l : List ℕ) (k v : ℕ) → v < 128 → sensitivityApplied l k (entryOf 0 v) ≡ sensitivityPut l k v 0
+unfolding rpnNumbered
+entry-put l k v h =
+    let s : v % 128 * 128 / 128 ≡ v = omega arith in
+    let c : v % 128 * 128 % 128 ≡ 0 = omega arith in
+    rw (s, c)
+
 put-entry : (z : Zones) (v : ℕ) (zone : MpeZone) (manager : Bool) → v < 128
     → rpnZero z zone manager (entryOf 0 v) ≡ withSensitivities z (sensitivityPut (z .sensitivity) (slotOf zone manager) v 0)
-put-entry z v zone true h =
-    let s : v % 128 * 128 / 128 ≡ v = omega arith in
-    let c : v % 128 * 128 % 128 ≡ 0 = omega arith in
-    rw (s, c)
-put-entry z v zone false h =
-    let s : v % 128 * 128 / 128 ≡ v = omega arith in
-    let c : v % 128 * 128 % 128 ≡ 0 = omega arith in
-    rw (s, c)
+put-entry z v zone manager h =
+    applied-to z zone manager (entryOf 0 v) ∙ ap (withSensitivities z) (entry-put (z .sensitivity) (slotOf zone manager) v h)
 
 entry-acts : (r : MpeReceiver) (k v : ℕ) (zone : MpeZone) (manager : Bool) → legal (r .layout) ≡ true → k < 16 → v < 128
     → roleOf (r .layout) k ≡ roleFor zone manager
