@@ -1,5 +1,6 @@
 // Items 60 to 65: the note allocator.
 use crate::arguments;
+use crate::arguments::Item;
 use crate::line::Line;
 use mpe_allocator::MpeNoteAllocator;
 use mpe_allocator::NoteOn;
@@ -32,12 +33,12 @@ fn reading(allocator: MpeNoteAllocator) -> Line {
 }
 
 // Answers item 61.
-fn note_on(allocator: MpeNoteAllocator, item: &[u8; 80]) -> AllocatorTold {
+fn note_on(allocator: MpeNoteAllocator, item: Item) -> AllocatorTold {
     let layout = MpeLayout {
-        lower: item[1],
-        upper: item[2],
+        lower: item.a1,
+        upper: item.a2,
     };
-    let noted = allocator.note_on(layout, arguments::zone(item[3]), item[4]);
+    let noted = allocator.note_on(layout, arguments::zone(item.a3), item.a4);
     let next = noted.allocator;
     let r = noted.reply;
     AllocatorTold {
@@ -61,8 +62,8 @@ fn changed(allocator: MpeNoteAllocator, operation: u8, argument: u8) -> MpeNoteA
 }
 
 // Answers the item, on an allocator.
-pub(crate) fn answer(allocator: MpeNoteAllocator, item: &[u8; 80]) -> AllocatorTold {
-    let operation = item[0];
+pub(crate) fn answer(allocator: MpeNoteAllocator, item: Item) -> AllocatorTold {
+    let operation = item.operation;
     if operation == 0x61 {
         return note_on(allocator, item);
     }
@@ -73,7 +74,7 @@ pub(crate) fn answer(allocator: MpeNoteAllocator, item: &[u8; 80]) -> AllocatorT
         };
     }
     AllocatorTold {
-        allocator: changed(allocator, operation, item[1]),
+        allocator: changed(allocator, operation, item.a1),
         line: Line::new(),
     }
 }

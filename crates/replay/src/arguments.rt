@@ -4,6 +4,40 @@ use parameter_event::Parameter;
 use parameter_event::ParameterChange;
 use ump::controller::Rpn;
 
+// An item's operation and its first ten bytes of arguments: all that an item has but for a settings record.
+pub(crate) struct Item {
+    pub(crate) operation: u8,
+    pub(crate) a1: u8,
+    pub(crate) a2: u8,
+    pub(crate) a3: u8,
+    pub(crate) a4: u8,
+    pub(crate) a5: u8,
+    pub(crate) a6: u8,
+    pub(crate) a7: u8,
+    pub(crate) a8: u8,
+    pub(crate) a9: u8,
+    pub(crate) a10: u8,
+}
+
+impl Item {
+    // The item of these bytes.
+    pub(crate) fn of(bytes: &[u8; 80]) -> Item {
+        Item {
+            operation: bytes[0],
+            a1: bytes[1],
+            a2: bytes[2],
+            a3: bytes[3],
+            a4: bytes[4],
+            a5: bytes[5],
+            a6: bytes[6],
+            a7: bytes[7],
+            a8: bytes[8],
+            a9: bytes[9],
+            a10: bytes[10],
+        }
+    }
+}
+
 // Two bytes, highest first.
 pub(crate) fn two(a: u8, b: u8) -> u16 {
     (a as u16) << 8 | (b as u16)

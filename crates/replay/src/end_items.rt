@@ -1,4 +1,5 @@
 // Items 00 to 07: the receiving end.
+use crate::arguments::Item;
 use crate::line::Line;
 use crate::parameter_items;
 use crate::receiver_items;
@@ -93,10 +94,10 @@ fn changed(end: End, operation: u8, c: u8, on: bool) -> End {
 }
 
 // Answers the item, on an end.
-pub(crate) fn answer(end: End, item: &[u8; 80]) -> EndTold {
-    let operation = item[0];
-    let first = item[1];
-    let second = item[2];
+pub(crate) fn answer(end: End, item: Item) -> EndTold {
+    let operation = item.operation;
+    let first = item.a1;
+    let second = item.a2;
     if operation == 0x01 {
         return stepped(step(end, first));
     }

@@ -1,5 +1,6 @@
 // Items 10 to 15: calls of a layout.
 use crate::arguments;
+use crate::arguments::Item;
 use crate::line::Line;
 use mpe_layout::Activity;
 use mpe_layout::FoundRole;
@@ -55,19 +56,19 @@ fn activity(answer: Activity) -> Line {
 }
 
 // Answers the item.
-pub(crate) fn answer(item: &[u8; 80]) -> Line {
-    let operation = item[0];
+pub(crate) fn answer(item: Item) -> Line {
+    let operation = item.operation;
     let layout = MpeLayout {
-        lower: item[1],
-        upper: item[2],
+        lower: item.a1,
+        upper: item.a2,
     };
-    let argument = item[3];
+    let argument = item.a3;
     let zone = arguments::zone(argument);
     if operation == 0x10 {
         return made(MpeLayout::new(layout.lower, layout.upper));
     }
     if operation == 0x11 {
-        return made(layout.with_mcm(zone, item[4]));
+        return made(layout.with_mcm(zone, item.a4));
     }
     if operation == 0x12 {
         return role(layout.role(argument));

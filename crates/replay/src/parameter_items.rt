@@ -1,5 +1,6 @@
 // Items 30 to 39: parameter events, their messages, and a channel's parameter state.
 use crate::arguments;
+use crate::arguments::Item;
 use crate::line::Line;
 use parameter_event::Parameter;
 use parameter_event::ParameterChange;
@@ -69,35 +70,35 @@ pub(crate) fn reading(line: Line, rpn_on: bool, nrpn_on: bool, selection: Select
 }
 
 // Answers item 30.
-fn apply(item: &[u8; 80]) -> Line {
+fn apply(item: Item) -> Line {
     let e = ParameterEvent {
-        parameter: arguments::parameter(item[1], item[2], item[3]),
-        change: arguments::change(item[4], item[5]),
+        parameter: arguments::parameter(item.a1, item.a2, item.a3),
+        change: arguments::change(item.a4, item.a5),
     };
-    Line::one(e.apply(arguments::two(item[6], item[7])) as u32)
+    Line::one(e.apply(arguments::two(item.a6, item.a7)) as u32)
 }
 
 // Answers item 31.
-fn select(item: &[u8; 80]) -> Line {
-    let p = arguments::parameter(item[2], item[3], item[4]);
-    Line::of_two_words(select_messages(item[1], p))
+fn select(item: Item) -> Line {
+    let p = arguments::parameter(item.a2, item.a3, item.a4);
+    Line::of_two_words(select_messages(item.a1, p))
 }
 
 // Answers item 32.
-fn change_by(item: &[u8; 80]) -> Line {
-    let c = arguments::change(item[2], item[3]);
-    Line::of_message(change_message(item[1], c))
+fn change_by(item: Item) -> Line {
+    let c = arguments::change(item.a2, item.a3);
+    Line::of_message(change_message(item.a1, c))
 }
 
 // Answers item 33.
-fn value(item: &[u8; 80]) -> Line {
-    let p = arguments::parameter(item[2], item[3], item[4]);
-    Line::of_four_words(value_messages(item[1], p, arguments::two(item[5], item[6])))
+fn value(item: Item) -> Line {
+    let p = arguments::parameter(item.a2, item.a3, item.a4);
+    Line::of_four_words(value_messages(item.a1, p, arguments::two(item.a5, item.a6)))
 }
 
 // Answers an item of 30 to 33, which has no state.
-pub(crate) fn answer(item: &[u8; 80]) -> Line {
-    let operation = item[0];
+pub(crate) fn answer(item: Item) -> Line {
+    let operation = item.operation;
     if operation == 0x30 {
         return apply(item);
     }
@@ -146,10 +147,10 @@ fn reading_of(state: ParameterState) -> Line {
 }
 
 // Answers an item of 34 to 39, on a parameter state.
-pub(crate) fn state_answer(state: ParameterState, item: &[u8; 80]) -> ParameterTold {
-    let operation = item[0];
+pub(crate) fn state_answer(state: ParameterState, item: Item) -> ParameterTold {
+    let operation = item.operation;
     if operation == 0x35 {
-        return receive(state, arguments::four(item[1], item[2], item[3], item[4]));
+        return receive(state, arguments::four(item.a1, item.a2, item.a3, item.a4));
     }
     if operation == 0x39 {
         return ParameterTold {
@@ -158,7 +159,7 @@ pub(crate) fn state_answer(state: ParameterState, item: &[u8; 80]) -> ParameterT
         };
     }
     ParameterTold {
-        state: changed(state, operation, item[1] != 0),
+        state: changed(state, operation, item.a1 != 0),
         line: Line::new(),
     }
 }

@@ -1,5 +1,6 @@
 // Items 40 to 44: the receiver of one input.
 use crate::arguments;
+use crate::arguments::Item;
 use crate::line::Line;
 use crate::line::NUMBER;
 use mpe_layout::MpeLayout;
@@ -96,19 +97,19 @@ fn channel_of(receiver: MpeReceiver, c: u8) -> Line {
 }
 
 // The event of item 41, if it has one.
-fn event_given(item: &[u8; 80]) -> MaybeEvent {
-    if item[5] == 0 {
+fn event_given(item: Item) -> MaybeEvent {
+    if item.a5 == 0 {
         return MaybeEvent::NoEvent;
     }
     MaybeEvent::Event(ParameterEvent {
-        parameter: arguments::parameter(item[6], item[7], item[8]),
-        change: arguments::change(item[9], item[10]),
+        parameter: arguments::parameter(item.a6, item.a7, item.a8),
+        change: arguments::change(item.a9, item.a10),
     })
 }
 
 // Answers item 41.
-fn receive(receiver: MpeReceiver, item: &[u8; 80]) -> ReceiverTold {
-    let word = arguments::four(item[1], item[2], item[3], item[4]);
+fn receive(receiver: MpeReceiver, item: Item) -> ReceiverTold {
+    let word = arguments::four(item.a1, item.a2, item.a3, item.a4);
     let received = receiver.receive(word, event_given(item));
     let next = received.receiver;
     let r = received.reply;
@@ -130,8 +131,8 @@ fn set_layout(receiver: MpeReceiver, lower: u8, upper: u8) -> ReceiverTold {
 }
 
 // Answers the item, on a receiver.
-pub(crate) fn answer(receiver: MpeReceiver, item: &[u8; 80]) -> ReceiverTold {
-    let operation = item[0];
+pub(crate) fn answer(receiver: MpeReceiver, item: Item) -> ReceiverTold {
+    let operation = item.operation;
     if operation == 0x40 {
         return ReceiverTold {
             receiver: MpeReceiver::new(),
@@ -142,7 +143,7 @@ pub(crate) fn answer(receiver: MpeReceiver, item: &[u8; 80]) -> ReceiverTold {
         return receive(receiver, item);
     }
     if operation == 0x42 {
-        return set_layout(receiver, item[1], item[2]);
+        return set_layout(receiver, item.a1, item.a2);
     }
     if operation == 0x43 {
         return ReceiverTold {
@@ -152,6 +153,6 @@ pub(crate) fn answer(receiver: MpeReceiver, item: &[u8; 80]) -> ReceiverTold {
     }
     ReceiverTold {
         receiver,
-        line: channel_of(receiver, item[1]),
+        line: channel_of(receiver, item.a1),
     }
 }

@@ -1,4 +1,5 @@
 // A run over a trace.
+use crate::arguments::Item;
 use crate::item::Begun;
 use crate::item::Found;
 use crate::out::Out;
@@ -26,7 +27,7 @@ fn has_buffer(operation: u8) -> bool {
 // Answers an item that has a buffer of its own.
 fn buffer_answer(out: Out, item: &[u8; 80], buffer: &mut [u8; 4096]) -> Out {
     if item[0] == 0x53 {
-        return sender_items::zone_answer(out, item, buffer);
+        return sender_items::zone_answer(out, Item::of(item), buffer);
     }
     restatement_items::answer(out, item, buffer)
 }

@@ -1,5 +1,6 @@
 // Items 50 to 55: classes of messages, and the messages of a sender.
 use crate::arguments;
+use crate::arguments::Item;
 use crate::line::Line;
 use crate::out::Out;
 use mpe_class::MpeClass;
@@ -53,39 +54,39 @@ fn class(class: MpeClass) -> Line {
 }
 
 // Answers item 50.
-fn class_answer(item: &[u8; 80]) -> Line {
-    if 20 < item[1] {
+fn class_answer(item: Item) -> Line {
+    if 20 < item.a1 {
         return Line::out_of_range();
     }
-    class(mpe_class(kind(item[1]), item[2] != 0, item[3] != 0, item[4] != 0))
+    class(mpe_class(kind(item.a1), item.a2 != 0, item.a3 != 0, item.a4 != 0))
 }
 
 // Answers item 54.
-fn mode(item: &[u8; 80]) -> Line {
+fn mode(item: Item) -> Line {
     let layout = MpeLayout {
-        lower: item[1],
-        upper: item[2],
+        lower: item.a1,
+        upper: item.a2,
     };
-    Line::of_message(mode_message(layout, arguments::zone(item[3]), item[4] != 0))
+    Line::of_message(mode_message(layout, arguments::zone(item.a3), item.a4 != 0))
 }
 
 // Answers item 55.
-fn note(item: &[u8; 80]) -> Line {
-    let bend = arguments::two(item[4], item[5]);
-    Line::of_four_words(note_messages(item[1], item[2], item[3], bend, item[6], item[7]))
+fn note(item: Item) -> Line {
+    let bend = arguments::two(item.a4, item.a5);
+    Line::of_four_words(note_messages(item.a1, item.a2, item.a3, bend, item.a6, item.a7))
 }
 
 // Answers an item but 53.
-pub(crate) fn answer(item: &[u8; 80]) -> Line {
-    let operation = item[0];
+pub(crate) fn answer(item: Item) -> Line {
+    let operation = item.operation;
     if operation == 0x50 {
         return class_answer(item);
     }
     if operation == 0x51 {
-        return Line::of_three_words(mcm_messages(arguments::zone(item[1]), item[2]));
+        return Line::of_three_words(mcm_messages(arguments::zone(item.a1), item.a2));
     }
     if operation == 0x52 {
-        return Line::of_three_words(sensitivity_messages(item[1], item[2]));
+        return Line::of_three_words(sensitivity_messages(item.a1, item.a2));
     }
     if operation == 0x54 {
         return mode(item);
@@ -104,19 +105,19 @@ fn buffer_length(n: u8) -> usize
 }
 
 // Makes the call of item 53 on a buffer, and writes its answer and the buffer.
-fn zone_into(out: Out, item: &[u8; 80], words: &mut [u32], buffer: &mut [u8; 4096]) -> Out {
+fn zone_into(out: Out, item: Item, words: &mut [u32], buffer: &mut [u8; 4096]) -> Out {
     let layout = MpeLayout {
-        lower: item[1],
-        upper: item[2],
+        lower: item.a1,
+        upper: item.a2,
     };
-    let zone = arguments::zone(item[3]);
-    let written = zone_sensitivity_messages(layout, zone, item[4], item[5], words);
+    let zone = arguments::zone(item.a3);
+    let written = zone_sensitivity_messages(layout, zone, item.a4, item.a5, words);
     out.written(buffer, written).words(buffer, words)
 }
 
 // Answers item 53.
-pub(crate) fn zone_answer(out: Out, item: &[u8; 80], buffer: &mut [u8; 4096]) -> Out {
-    let n = buffer_length(item[6]);
+pub(crate) fn zone_answer(out: Out, item: Item, buffer: &mut [u8; 4096]) -> Out {
+    let n = buffer_length(item.a6);
     let mut words = [BEFORE; 64];
     zone_into(out, item, &mut words[..n], buffer)
 }

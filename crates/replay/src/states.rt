@@ -1,5 +1,6 @@
 // The states that a trace works on, and the call of each item.
 use crate::allocator_items;
+use crate::arguments::Item;
 use crate::end_items;
 use crate::layout_items;
 use crate::line::Line;
@@ -28,8 +29,8 @@ pub(crate) struct Answered {
 }
 
 // The answer of an item that has no state.
-fn answer_plain(item: &[u8; 80]) -> Line {
-    let operation = item[0];
+fn answer_plain(item: Item) -> Line {
+    let operation = item.operation;
     if operation < 0x20 {
         return layout_items::answer(item);
     }
@@ -53,7 +54,7 @@ impl States {
     }
 
     // Makes the call of an item that leaves the states alone.
-    fn answer_stateless(self, item: &[u8; 80]) -> Answered {
+    fn answer_stateless(self, item: Item) -> Answered {
         Answered {
             states: self,
             line: answer_plain(item),
@@ -61,7 +62,7 @@ impl States {
     }
 
     // Makes the call of an item on the end.
-    fn answer_end(self, item: &[u8; 80]) -> Answered {
+    fn answer_end(self, item: Item) -> Answered {
         let end = self.end;
         let told = end_items::answer(end, item);
         let next = told.end;
@@ -72,7 +73,7 @@ impl States {
     }
 
     // Makes the call of an item on the parameter state.
-    fn answer_parameters(self, item: &[u8; 80]) -> Answered {
+    fn answer_parameters(self, item: Item) -> Answered {
         let parameters = self.parameters;
         let told = parameter_items::state_answer(parameters, item);
         let next = told.state;
@@ -83,7 +84,7 @@ impl States {
     }
 
     // Makes the call of an item on the receiver.
-    fn answer_receiver(self, item: &[u8; 80]) -> Answered {
+    fn answer_receiver(self, item: Item) -> Answered {
         let receiver = self.receiver;
         let told = receiver_items::answer(receiver, item);
         let next = told.receiver;
@@ -94,7 +95,7 @@ impl States {
     }
 
     // Makes the call of an item on the allocator.
-    fn answer_allocator(self, item: &[u8; 80]) -> Answered {
+    fn answer_allocator(self, item: Item) -> Answered {
         let allocator = self.allocator;
         let told = allocator_items::answer(allocator, item);
         let next = told.allocator;
@@ -105,9 +106,9 @@ impl States {
     }
 
     // Gives the end a restatement.
-    fn answer_restated(self, item: &[u8; 80]) -> Answered {
+    fn answer_restated(self, bytes: &[u8; 80]) -> Answered {
         let end = self.end;
-        let next = restatement_items::heard(end, item);
+        let next = restatement_items::heard(end, bytes);
         let mut states = self;
         states.end = next;
         Answered {
@@ -116,9 +117,9 @@ impl States {
         }
     }
 
-    // Makes the call of a whole item.
-    pub(crate) fn answer(self, item: &[u8; 80]) -> Answered {
-        let operation = item[0];
+    // Makes the call of an item below 70.
+    fn answer_item(self, item: Item) -> Answered {
+        let operation = item.operation;
         if operation < 0x10 {
             return self.answer_end(item);
         }
@@ -134,9 +135,14 @@ impl States {
         if operation < 0x60 {
             return self.answer_stateless(item);
         }
-        if operation < 0x70 {
-            return self.answer_allocator(item);
+        self.answer_allocator(item)
+    }
+
+    // Makes the call of a whole item.
+    pub(crate) fn answer(self, bytes: &[u8; 80]) -> Answered {
+        if bytes[0] < 0x70 {
+            return self.answer_item(Item::of(bytes));
         }
-        self.answer_restated(item)
+        self.answer_restated(bytes)
     }
 }

@@ -6,9 +6,6 @@ use borrow.Author.Needs.{needs}
 use Rattle.replay.proofs.sender_items.zone_answer.Statement.{statement}
 use Rattle.replay.proofs.sender_items.zone_answer.Tie as tie
 
-element-copy-out-buffer-length : tie.Need-element-copy-out-buffer-length
-element-copy-out-buffer-length c = search needs
-
 buffer-length-requires : tie.Need-buffer-length-requires
 buffer-length-requires c κs = search needs
 
@@ -28,7 +25,6 @@ pub zone-answer-spec : {M : Type 1} → statement M
 zone-answer-spec =
     tie.close
     (tie.spec
-    element-copy-out-buffer-length
     buffer-length-requires
     array-borrow-prefix-words
     slice-aggregate-zone-into
