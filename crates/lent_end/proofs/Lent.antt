@@ -18,10 +18,15 @@ use Rattle.parameters.specs.declared.Heard.{Heard}
 use Rattle.parameters.specs.declared.ParameterState.{ParameterState}
 use Rattle.parameters.specs.declared.MaybeEvent.the-variants.{NoEvent}
 use Rattle.parameters.specs.State as parameter
+use Rattle.mpe_layout.specs.declared.MpeRole.{MpeRole}
+use Rattle.mpe_layout.specs.declared.MpeRole.the-variants as role
 use Rattle.mpe_receiver.specs.declared.MpeReceiver.{MpeReceiver}
 use Rattle.mpe_zones.specs.declared.MpeEvent.the-variants.{Ignored}
 use Rattle.mpe_zones.specs.declared.Told.{Told}
-use Rattle.mpe_receiver.specs.State.{withBends, withPressures, withBrightnesses}
+use Rattle.mpe_zones.specs.declared.Zones.{Zones}
+use Rattle.mpe_zones.specs.Zones.{roleHeld}
+use Rattle.mpe_zones.specs.Told.{onMember, eventOf}
+use Rattle.mpe_receiver.specs.State.{withBends, withPressures, withBrightnesses, zonesOf}
 use Rattle.mpe_receiver.specs.Receive.{stored, heardOf, settlesBy, settled}
 use Rattle.mpe_receiver.specs.Receive as receiver
 use Rattle.mpe_receiver.proofs.Parts.{receiver-quiet}
@@ -38,7 +43,7 @@ use Rattle.lent_end.specs.declared.Taken.{Taken}
 use Rattle.lent_end.specs.declared.Placed.{Placed}
 use Rattle.lent_end.specs.declared.Controlled.{Controlled}
 use Rattle.receiving_end.specs.End.{blank, withReader, withReceiver, withParameter, parameterAt, stepped, messageAt, messageStep, answerStep, stepOf, stepReply, stepEnd}
-use Rattle.lent_end.specs.Lent.{readerOnly, bendIn, wordTaken, readTaken, takenOf, placedOf, toldOf, controlledOf, voicedEnd, controlledAt, controlledEnd, toldEnd, toldReply}
+use Rattle.lent_end.specs.Lent.{readerOnly, bendIn, wordTaken, readTaken, takenOf, placedOf, voiceEvent, voiceReply, toldOf, controlledOf, voicedEnd, controlledAt, controlledEnd, toldEnd, toldReply}
 use Rattle.lent_end.proofs.Words.{Formed, Fine, read-fine}
 
 -- what a taken byte makes of an end that has the reader after it
@@ -83,6 +88,13 @@ receiver-end : (e : End) (s b : Bool) (x y : MpeReceiver)
 receiver-end e true b x y q = refl
 receiver-end e false true x y q = ap (withReceiver e) (q refl)
 receiver-end e false false x y q = ap (withReceiver e) (q refl)
+
+-- the data bytes of a message that is no control change do not decide its event
+voice-event : (z : Zones) (channel : ℕ) (ro : MpeRole) (o a : ℕ) → eqb o 0xB ≡ false → eventOf z channel ro o a ≡ voiceEvent z ro o
+unfolding onMember
+voice-event z channel role.NoZone o a other = refl
+voice-event z channel (role.Manager zone) o a other = refl
+voice-event z channel (role.Member zone) o a other = rw other
 
 -- a message of a channel, as the lent call takes it
 abbrev messageTaken : Reader → ℕ → Bool → Taken
@@ -161,6 +173,9 @@ module _ (e : End) (n : Reader) (w : ℕ) (formed : wordForm w ≡ true) where
     control-step = ap₂ stepped control-end control-reply ∙ sym control-heard
 
   module _ (other : eqb (opcodeOf w) 0xB ≡ false) where
+    voice-said : voiceReply r w ≡ Message w (at .event)
+    voice-said = ap (Message w) (sym (voice-event (zonesOf r) k (roleHeld (r .layout) k) (opcodeOf w) (firstOf w) other))
+
     abbrev voiceAfter : Stepped
     voiceAfter = stepped (withReceiver e (put w r)) (Message w (at .event))
 
@@ -195,7 +210,7 @@ module _ (e : End) (n : Reader) (w : ℕ) (formed : wordForm w ≡ true) where
     voice-end = ap voiceIn (channel-mod w) ∙ voice-put
 
     voice-step : takenStep e (messageTaken n w false) ≡ messageStep e w
-    voice-step = ap (λ x. stepped x (voiceAfter .reply)) voice-end ∙ sym voice-heard
+    voice-step = ap₂ stepped voice-end voice-said ∙ sym voice-heard
 
 -- what holds of a test's two values
 by-value : (P : Bool → Type 0) (b : Bool) → (b ≡ true → P true) → (b ≡ false → P false) → P b

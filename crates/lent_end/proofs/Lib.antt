@@ -2,5 +2,6 @@
 pub mod Item
 pub mod Walk
 pub mod Lending
+pub mod Onward
 pub mod Words
 pub mod Lent

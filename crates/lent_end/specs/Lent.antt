@@ -7,13 +7,15 @@ use Rattle.ump.specs.Choice.{if_then_else_}
 use Rattle.ump.specs.Word.{opcodeOf, channelOf, firstOf, secondOf}
 use Rattle.parameters.specs.declared.ParameterState.{ParameterState}
 use Rattle.parameters.specs.State as parameter
+use Rattle.mpe_layout.specs.declared.MpeRole.{MpeRole}
+use Rattle.mpe_layout.specs.declared.MpeRole.the-variants as role
 use Rattle.mpe_receiver.specs.declared.MpeReceiver.{MpeReceiver}
 use Rattle.mpe_zones.specs.declared.MpeEvent.{MpeEvent}
-use Rattle.mpe_zones.specs.declared.MpeEvent.the-variants.{Ignored}
+use Rattle.mpe_zones.specs.declared.MpeEvent.the-variants.{NoZone, Zone, Ignored}
 use Rattle.mpe_zones.specs.declared.Told.{Told}
 use Rattle.mpe_zones.specs.declared.Zones.{Zones}
-use Rattle.mpe_zones.specs.Zones.{roleHeld}
-use Rattle.mpe_zones.specs.Told.{eventOf, saidBy, toldAs}
+use Rattle.mpe_zones.specs.Zones.{monoOf, roleHeld}
+use Rattle.mpe_zones.specs.Told.{inMode4, eventOf, saidBy, toldAs}
 use Rattle.mpe_receiver.specs.State.{withBends, withPressures, withBrightnesses, zonesOf}
 use Rattle.mpe_receiver.specs.Receive.{settlesBy, settled}
 use Rattle.byte_reader.specs.declared.Reader.{Reader}
@@ -79,6 +81,18 @@ placedOf r w =
       reply = Message w (placedEvent (zonesOf r) w);
     }
 
+-- the event of a message that is no control change, by its channel's role
+abbrev pub voiceEvent : Zones → MpeRole → ℕ → MpeEvent
+voiceEvent z role.NoZone opcode = NoZone
+voiceEvent z (role.Manager zone) opcode = Zone zone true
+voiceEvent z (role.Member zone) opcode =
+    if eqb opcode 0xA then Ignored else
+    if eqb opcode 0xC then inMode4 zone (monoOf z zone) else
+    Zone zone false
+
+abbrev pub voiceReply : MpeReceiver → ℕ → Reply
+voiceReply r w = Message w (voiceEvent (zonesOf r) (roleHeld (r .layout) (channelOf w)) (opcodeOf w))
+
 -- a control change: the zones after it and its event, with the event that the channel's parameters give
 abbrev pub toldOf : ParameterState → Placed → ℕ → Told
 toldOf p at w =
@@ -134,11 +148,15 @@ controlledAt e w channel at = controlledOf (parameterAt e (channel % 16)) at w
 abbrev pub controlledEnd : End → ℕ → ℕ → Placed → End
 controlledEnd e w channel at = parameterEnd e w channel (controlledAt e w channel at)
 
+-- a control change with its place in the zones
+abbrev pub controlEnd : End → Taken → End
+controlEnd e t = controlledEnd e (t .word) (t .channel) (placedOf (e .receiver) (t .word))
+
+abbrev pub controlReply : End → Taken → Reply
+controlReply e t = controlledAt e (t .word) (t .channel) (placedOf (e .receiver) (t .word)) .reply
+
 abbrev pub toldEnd : End → Taken → End
-toldEnd e t =
-    if t .control then controlledEnd e (t .word) (t .channel) (placedOf (e .receiver) (t .word)) else voicedEnd e t
+toldEnd e t = if t .control then controlEnd e t else voicedEnd e t
 
 abbrev pub toldReply : End → Taken → Reply
-toldReply e t =
-    if t .control then controlledAt e (t .word) (t .channel) (placedOf (e .receiver) (t .word)) .reply else
-    placedOf (e .receiver) (t .word) .reply
+toldReply e t = if t .control then controlReply e t else voiceReply (e .receiver) (t .word)

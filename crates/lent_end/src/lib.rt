@@ -1,8 +1,9 @@
 // The byte call on a lent end: the end is taken apart and altered where it stands.
 ghost use mathlib.Core.Path.{_≡_};
 ghost use Rattle.receiving_end.specs.End.{stepReply, stepEnd};
-ghost use Rattle.lent_end.specs.Lent.{readerOnly, bendIn, wordTaken, takenOf, placedOf, controlledOf, voicedEnd, brightEnd, settledEnd, receiverEnd, parameterEnd, controlledAt, controlledEnd, toldReply, toldEnd};
+ghost use Rattle.lent_end.specs.Lent.{readerOnly, bendIn, wordTaken, readTaken, takenOf, placedOf, voiceEvent, voiceReply, controlledOf, voicedEnd, brightEnd, settledEnd, receiverEnd, parameterEnd, controlledAt, controlledEnd, controlReply, controlEnd, toldReply, toldEnd};
 use byte_reader::Read;
+use byte_reader::ReadStep;
 use byte_reader::Reader;
 use mpe_layout::MpeRole;
 use mpe_receiver::MpeReceiver;
@@ -86,11 +87,10 @@ fn take_word(reader: Reader, word: u32) -> Taken
     }
 }
 
-// What one byte is.
-fn take(reader: Reader, b: u8) -> Taken
-    ensures { λ r. ⌜ r ≡ takenOf reader b ⌝ }
+// What a byte is by what the reader made of it.
+fn take_read(s: ReadStep) -> Taken
+    ensures { λ r. ⌜ r ≡ readTaken (s .reader) (s .read) ⌝ }
 {
-    let s = reader.step(b);
     let next = s.reader;
     let read = s.read;
     match read {
@@ -99,6 +99,16 @@ fn take(reader: Reader, b: u8) -> Taken
         Read::RealTime(c) => reader_only(next, Reply::RealTime(c)),
         Read::Message(word) => take_word(next, word),
     }
+}
+
+// What one byte is. Only a data byte completes a message: the compiler then keeps its way apart from that of the others.
+fn take(reader: Reader, b: u8) -> Taken
+    ensures { λ r. ⌜ r ≡ takenOf reader b ⌝ }
+{
+    if b < 0x80 {
+        return take_read(reader.step(b));
+    }
+    take_read(reader.step(b))
 }
 
 // Where a message stands: its channel's role in the zones, and its event by that role.
@@ -114,6 +124,47 @@ fn place(receiver: MpeReceiver, word: u32) -> Placed
         event,
         reply: Reply::Message(word, event),
     }
+}
+
+// The event of a message that is no control change, by its channel's role: its data bytes do not matter.
+fn voice_event(zones: Zones, role: MpeRole, opcode: u8) -> MpeEvent
+    ensures { λ r. ⌜ r ≡ voiceEvent zones role opcode ⌝ }
+{
+    match role {
+        MpeRole::NoZone => MpeEvent::NoZone,
+        MpeRole::Manager(zone) => MpeEvent::Zone {
+            zone,
+            manager: true,
+        },
+        MpeRole::Member(zone) => {
+            if opcode == 0xA {
+                return MpeEvent::Ignored;
+            }
+            if opcode == 0xC {
+                if zones.is_mono(zone) {
+                    return MpeEvent::Zone {
+                        zone,
+                        manager: false,
+                    };
+                }
+                return MpeEvent::Ignored;
+            }
+            MpeEvent::Zone {
+                zone,
+                manager: false,
+            }
+        }
+    }
+}
+
+// The reply to a message that is no control change.
+fn voice_reply(receiver: MpeReceiver, word: u32) -> Reply
+    ensures { λ r. ⌜ r ≡ voiceReply receiver word ⌝ }
+{
+    let zones = receiver.zones();
+    let role = zones.role(channel(word));
+    let event = voice_event(zones, role, opcode(word));
+    Reply::Message(word, event)
 }
 
 // A control change reaches the parameters of its channel, and the zones with their event.
@@ -155,7 +206,7 @@ fn bend_in(word: u32) -> u16
 }
 
 // A bend or a pressure is stored where it stands.
-fn tell_voice(end: &mut End, t: Taken, reply: Reply) -> Reply
+fn store_voice(end: &mut End, t: Taken, reply: Reply) -> Reply
     ensures { λ r. ⌜ (r ≡ reply) × (now (end .exit) ≡ voicedEnd (now (end .entry)) t) ⌝ }
 {
     let k = t.channel % 16;
@@ -203,25 +254,41 @@ fn tell_parameter(end: &mut End, word: u32, channel: usize, c: Controlled) -> Re
     tell_receiver(end, word, channel, c)
 }
 
-// A control change reaches its channel's parameters first.
-fn tell_control(end: &mut End, word: u32, channel: usize, placed: Placed) -> Reply
-    ensures { λ r. ⌜ (r ≡ controlledAt (now (end .entry)) word channel placed .reply) × (now (end .exit) ≡ controlledEnd (now (end .entry)) word channel placed) ⌝ }
+// A control change that has its place in the zones reaches its channel's parameters first.
+fn tell_placed(end: &mut End, t: Taken, placed: Placed) -> Reply
+    ensures { λ r. ⌜ (r ≡ controlledAt (now (end .entry)) (t .word) (t .channel) placed .reply) × (now (end .exit) ≡ controlledEnd (now (end .entry)) (t .word) (t .channel) placed) ⌝ }
 {
-    let k = channel % 16;
-    let c = control(end.parameters[k], placed, word);
-    tell_parameter(end, word, channel, c)
+    let k = t.channel % 16;
+    let c = control(end.parameters[k], placed, t.word);
+    tell_parameter(end, t.word, t.channel, c)
+}
+
+// A control change: its place in the zones, then its channel's parameters.
+fn tell_control(end: &mut End, t: Taken) -> Reply
+    ensures { λ r. ⌜ (r ≡ controlReply (now (end .entry)) t) × (now (end .exit) ≡ controlEnd (now (end .entry)) t) ⌝ }
+{
+    let receiver = end.receiver;
+    let placed = place(receiver, t.word);
+    tell_placed(end, t, placed)
+}
+
+// A message that is no control change: its reply, and what it stores.
+fn tell_voice(end: &mut End, t: Taken) -> Reply
+    ensures { λ r. ⌜ (r ≡ voiceReply (now (end .entry) .receiver) (t .word)) × (now (end .exit) ≡ voicedEnd (now (end .entry)) t) ⌝ }
+{
+    let receiver = end.receiver;
+    let reply = voice_reply(receiver, t.word);
+    store_voice(end, t, reply)
 }
 
 // A message of a channel.
 fn tell(end: &mut End, t: Taken) -> Reply
     ensures { λ r. ⌜ (r ≡ toldReply (now (end .entry)) t) × (now (end .exit) ≡ toldEnd (now (end .entry)) t) ⌝ }
 {
-    let receiver = end.receiver;
-    let placed = place(receiver, t.word);
     if t.control {
-        return tell_control(end, t.word, t.channel, placed);
+        return tell_control(end, t);
     } else {
-        return tell_voice(end, t, placed.reply);
+        return tell_voice(end, t);
     }
 }
 

@@ -1,63 +1,47 @@
 -- `lent_end::take` meets its contract.
 -- Assumes nothing.
 use borrow.Author.Needs.{needs}
-use Rattle.ump.proofs.Auto.{auto}
+use Prim.Native.Nat.{ℕ}
+use mathlib.Core.Path.{_≡_}
+use Rattle.byte_reader.specs.declared.Reader.{Reader}
+use Rattle.byte_reader.specs.declared.ReadStep.{ReadStep}
+use Rattle.byte_reader.specs.Reader.{readStep}
+use Rattle.lent_end.specs.declared.Taken.{Taken}
+use Rattle.lent_end.specs.Lent.{readTaken, takenOf}
 use Rattle.lent_end.proofs.take.Statement.{statement}
 use Rattle.lent_end.proofs.take.Tie as tie
 
 step-requires : tie.Need-step-requires
 step-requires c κs = search needs
 
-enum-told : tie.Need-enum-told
-enum-told c = search needs
+take-read-requires : tie.Need-take-read-requires
+take-read-requires c κs = search needs
 
-reader-only-requires : tie.Need-reader-only-requires
-reader-only-requires c κs = search needs
+step-requires-2 : tie.Need-step-requires-2
+step-requires-2 c κs = search needs
 
-enum-told-2 : tie.Need-enum-told-2
-enum-told-2 c = search needs
+take-read-requires-2 : tie.Need-take-read-requires-2
+take-read-requires-2 c κs = search needs
 
-reader-only-requires-2 : tie.Need-reader-only-requires-2
-reader-only-requires-2 c κs = search needs
-
-enum-known-read : tie.Need-enum-known-read
-enum-known-read c = search needs
-
-reader-only-requires-3 : tie.Need-reader-only-requires-3
-reader-only-requires-3 c κs = search needs
-
-enum-known-read-2 : tie.Need-enum-known-read-2
-enum-known-read-2 c = search needs
-
-take-word-requires : tie.Need-take-word-requires
-take-word-requires c κs = search needs
+-- either way, the two calls that make it
+made : (r : Reader) (b : ℕ) {s : ReadStep} {t : Taken} → s ≡ readStep r b → t ≡ readTaken (s .reader) (s .read) → t ≡ takenOf r b
+made r b ps pt = cc
 
 returns : tie.Need-returns
-returns c = search (auto, ← c .before .before .before .before .step .ensures, c .before .enum-told .given .1, c .reader-only .ensures)
+returns c =
+    let a = c .before .before .before .args in made (a .reader) (a .b) (c .before .step .ensures) (c .take-read .ensures)
 
 returns-2 : tie.Need-returns-2
-returns-2 c = search (auto, ← c .before .before .before .before .step .ensures, c .before .enum-told2 .given .1, c .reader-only2 .ensures)
-
-returns-3 : tie.Need-returns-3
-returns-3 c = search (auto, ← c .before .before .before .before .before .step .ensures, c .before .before .read .given .1, c .reader-only3 .ensures)
-
-returns-4 : tie.Need-returns-4
-returns-4 c = search (auto, ← c .before .before .before .before .before .step .ensures, c .before .before .read2 .given .1, c .take-word .ensures)
+returns-2 c =
+    let a = c .before .before .before .args in made (a .reader) (a .b) (c .before .step2 .ensures) (c .take-read2 .ensures)
 
 pub take-spec : {M : Type 1} → statement M
 take-spec =
     tie.close
     (tie.spec
     step-requires
-    enum-told
-    reader-only-requires
-    enum-told-2
-    reader-only-requires-2
-    enum-known-read
-    reader-only-requires-3
-    enum-known-read-2
-    take-word-requires
+    take-read-requires
     returns
-    returns-2
-    returns-3
-    returns-4)
+    step-requires-2
+    take-read-requires-2
+    returns-2)
