@@ -25,12 +25,12 @@ use Rattle.mpe_zones.specs.declared.MpeEvent.the-variants.{Ignored}
 use Rattle.mpe_zones.specs.declared.Told.{Told}
 use Rattle.mpe_zones.specs.declared.Zones.{Zones}
 use Rattle.mpe_zones.specs.Zones.{roleHeld}
-use Rattle.mpe_zones.specs.Told.{onMember, eventOf}
+use Rattle.mpe_zones.specs.Told.{saidBy, onMember, eventOf, toldAs, changesBy}
 use Rattle.mpe_receiver.specs.State.{withBends, withPressures, withBrightnesses, zonesOf}
 use Rattle.mpe_receiver.specs.Receive.{stored, heardOf, settlesBy, settled}
 use Rattle.mpe_receiver.specs.Receive as receiver
 use Rattle.mpe_receiver.proofs.Parts.{receiver-quiet}
-use Rattle.mpe_receiver.proofs.Settle.{put, unsettled}
+use Rattle.mpe_receiver.proofs.Settle.{put, lit, unsettled}
 use Rattle.byte_reader.specs.declared.Reader.{Reader}
 use Rattle.byte_reader.specs.declared.Read.{Read}
 use Rattle.byte_reader.specs.declared.Read.the-variants as read
@@ -43,7 +43,7 @@ use Rattle.lent_end.specs.declared.Taken.{Taken}
 use Rattle.lent_end.specs.declared.Placed.{Placed}
 use Rattle.lent_end.specs.declared.Controlled.{Controlled}
 use Rattle.receiving_end.specs.End.{blank, withReader, withReceiver, withParameter, parameterAt, stepped, messageAt, messageStep, answerStep, stepOf, stepReply, stepEnd}
-use Rattle.lent_end.specs.Lent.{readerOnly, bendIn, wordTaken, readTaken, takenOf, placedOf, voiceEvent, voiceReply, toldOf, controlledOf, voicedEnd, controlledAt, controlledEnd, toldEnd, toldReply}
+use Rattle.lent_end.specs.Lent.{readerOnly, bendIn, wordTaken, readTaken, takenOf, placedOf, voiceEvent, voiceReply, toldOf, controlledOf, voicedEnd, brightEnd, controlledAt, controlledEnd, toldEnd, toldReply}
 use Rattle.lent_end.proofs.Words.{Formed, Fine, read-fine}
 
 -- what a taken byte makes of an end that has the reader after it
@@ -56,6 +56,11 @@ takenReply e t = if t .message then toldReply e t else t .reply
 
 abbrev pub takenStep : End → Taken → Stepped
 takenStep e t = stepped (takenEnd e t) (takenReply e t)
+
+-- what holds of a test's two values
+by-value : (P : Bool → Type 0) (b : Bool) → (b ≡ true → P true) → (b ≡ false → P false) → P b
+by-value P true t f = t refl
+by-value P false t f = f refl
 
 -- a channel of a word is below 16
 channel-mod : (w : ℕ) → channelOf w % 16 ≡ channelOf w
@@ -81,13 +86,10 @@ formed-step : (e : End) (w : ℕ) → wordForm w ≡ true → messageStep e w �
 unfolding messageAt
 formed-step e w f = rw f
 
--- the receiver settled as a whole, or a part of it where that is the whole
-receiver-end : (e : End) (s b : Bool) (x y : MpeReceiver)
-    → (s ≡ false → (if b then y else e .receiver) ≡ x)
-    → (if s then withReceiver e x else if b then withReceiver e y else e) ≡ withReceiver e x
-receiver-end e true b x y q = refl
-receiver-end e false true x y q = ap (withReceiver e) (q refl)
-receiver-end e false false x y q = ap (withReceiver e) (q refl)
+-- the receiver settled as a whole, where that alters it
+receiver-end : (e : End) (s : Bool) (x : MpeReceiver) → (s ≡ false → e .receiver ≡ x) → (if s then withReceiver e x else e) ≡ withReceiver e x
+receiver-end e true x q = refl
+receiver-end e false x q = ap (withReceiver e) (q refl)
 
 -- the data bytes of a message that is no control change do not decide its event
 voice-event : (z : Zones) (channel : ℕ) (ro : MpeRole) (o a : ℕ) → eqb o 0xB ≡ false → eventOf z channel ro o a ≡ voiceEvent z ro o
@@ -95,6 +97,19 @@ unfolding onMember
 voice-event z channel role.NoZone o a other = refl
 voice-event z channel (role.Manager zone) o a other = refl
 voice-event z channel (role.Member zone) o a other = rw other
+
+-- nor does that of a brightness stand apart
+bright-event : (z : Zones) (channel : ℕ) (ro : MpeRole) (o a : ℕ) → o ≡ 0xB → a ≡ 74 → eventOf z channel ro o a ≡ voiceEvent z ro o
+unfolding onMember
+bright-event z channel role.NoZone o a control bright = refl
+bright-event z channel (role.Manager zone) o a control bright = refl
+bright-event z channel (role.Member zone) o a control bright = rw (control, bright)
+
+-- it tells of no change
+bright-still : (z : Zones) (ro : MpeRole) → changesBy (voiceEvent z ro 0xB) ≡ false
+bright-still z role.NoZone = refl
+bright-still z (role.Manager zone) = refl
+bright-still z (role.Member zone) = refl
 
 -- a message of a channel, as the lent call takes it
 abbrev messageTaken : Reader → ℕ → Bool → Taken
@@ -108,6 +123,7 @@ messageTaken r w control =
       presses = eqb (opcodeOf w) 0xD;
       word = w;
       channel = channelOf w;
+      brightens = eqb (firstOf w) 74;
     }
 
 -- a word of the form of a message, heard by an end
@@ -123,6 +139,10 @@ module _ (e : End) (n : Reader) (w : ℕ) (formed : wordForm w ≡ true) where
 
   abbrev at : Placed
   at = placedOf r w
+
+  -- the channel's parameters written over themselves
+  kept : withParameter e k p ≡ e
+  kept = ap (withParameters e) (set-getD (e .parameters) k blank)
 
   module _ (control : opcodeOf w ≡ 0xB) where
     -- what the channel's parameters make of it, and what the zones are told
@@ -147,30 +167,68 @@ module _ (e : End) (n : Reader) (w : ℕ) (formed : wordForm w ≡ true) where
         let only : parameter.wordHeard p w ≡ h = rw control in
         formed-step e w formed ∙ (ap (heardStep e w) only ∙ control-parts)
 
+    -- where nothing is settled, a brightness may yet be stored
+    unsettled-here : settlesBy w (t .event) ≡ false → (if eqb (firstOf w) 74 then lit w r else r) ≡ whole
+    unsettled-here = unsettled w control r k (at .role) (at .event) (h .event)
+
     -- the parts in place, by the channel's index
     abbrev controlIn : ℕ → Controlled
     controlIn j = controlledOf (parameterAt e j) at w
 
-    abbrev litIn : ℕ → MpeReceiver
-    litIn j = withBrightnesses r (set (r .brightness) j (secondOf w))
-
     abbrev inPlace : ℕ → End
     inPlace j =
         let x = withParameter e j (controlIn j .state) in
-        if controlIn j .settles then withReceiver x (settled r (controlIn j .zones) w (controlIn j .event)) else
-        if eqb (firstOf w) 74 then withReceiver x (litIn j) else x
+        if controlIn j .settles then withReceiver x (settled r (controlIn j .zones) w (controlIn j .event)) else x
 
-    control-end : controlledEnd e w k at ≡ controlAfter .end
-    control-end =
-        ap inPlace (channel-mod w)
-        ∙ receiver-end (withParameter e k (h .state)) (settlesBy w (t .event)) (eqb (firstOf w) 74) whole (litIn k)
-        (unsettled w control r k (at .role) (at .event) (h .event))
+    module _ (dark : eqb (firstOf w) 74 ≡ false) where
+      control-end : controlledEnd e w k at ≡ controlAfter .end
+      control-end =
+          ap inPlace (channel-mod w)
+          ∙ receiver-end (withParameter e k (h .state)) (settlesBy w (t .event)) whole
+          (λ s. sym (ap (λ (b : Bool). if b then lit w r else r) dark) ∙ unsettled-here s)
 
-    control-reply : controlledAt e w k at .reply ≡ controlAfter .reply
-    control-reply = ap (λ j. controlIn j .reply) (channel-mod w)
+      control-reply : controlledAt e w k at .reply ≡ controlAfter .reply
+      control-reply = ap (λ j. controlIn j .reply) (channel-mod w)
 
-    control-step : takenStep e (messageTaken n w true) ≡ messageStep e w
-    control-step = ap₂ stepped control-end control-reply ∙ sym control-heard
+      control-step : stepped (controlledEnd e w k at) (controlledAt e w k at .reply) ≡ messageStep e w
+      control-step = ap₂ stepped control-end control-reply ∙ sym control-heard
+
+    module _ (bright : firstOf w ≡ 74) where
+      -- the parameters keep what they hold, and say nothing
+      bright-heard : h ≡ parameter.hearing p NoEvent
+      unfolding parameter.controlled parameter.numberStored
+      bright-heard = rw bright
+
+      bright-told : t .event ≡ voiceEvent (zonesOf r) (at .role) (opcodeOf w)
+      bright-told =
+          let silent : toldAs (zonesOf r) k (at .role) (at .event) (saidBy (opcodeOf w) NoEvent) (firstOf w) .event ≡ at .event = rw control in
+          ap (λ x. toldAs (zonesOf r) k (at .role) (at .event) (saidBy (opcodeOf w) (x .event)) (firstOf w) .event) bright-heard
+          ∙ silent
+          ∙ bright-event (zonesOf r) k (at .role) (opcodeOf w) (firstOf w) control bright
+
+      bright-said : voiceReply r w ≡ Message w (t .event)
+      bright-said = ap (Message w) (sym bright-told)
+
+      bright-lit : lit w r ≡ whole
+      bright-lit =
+          let seen : eqb (firstOf w) 74 ≡ true = rw bright in
+          let still : settlesBy w (voiceEvent (zonesOf r) (at .role) (opcodeOf w)) ≡ false = rw (bright, control) (bright-still (zonesOf r) (at .role)) in
+          sym (ap (λ (b : Bool). if b then lit w r else r) seen) ∙ unsettled-here (ap (settlesBy w) bright-told ∙ still)
+
+      bright-end : brightEnd e (messageTaken n w true) ≡ controlAfter .end
+      bright-end =
+          ap (λ j. withReceiver e (withBrightnesses r (set (r .brightness) j (secondOf w)))) (channel-mod w)
+          ∙ ap₂ withReceiver (sym (ap (λ x. withParameter e k (x .state)) bright-heard ∙ kept)) bright-lit
+
+      bright-step : stepped (brightEnd e (messageTaken n w true)) (voiceReply r w) ≡ messageStep e w
+      bright-step = ap₂ stepped bright-end bright-said ∙ sym control-heard
+
+    change-step : takenStep e (messageTaken n w true) ≡ messageStep e w
+    change-step =
+        by-value (λ b. stepped (if b then brightEnd e (messageTaken n w true) else controlledEnd e w k at) (if b then voiceReply r w else controlledAt e w k at .reply) ≡ messageStep e w)
+        (eqb (firstOf w) 74)
+        (λ b. bright-step (eqb-true (firstOf w) 74 b))
+        (λ b. control-step b)
 
   module _ (other : eqb (opcodeOf w) 0xB ≡ false) where
     voice-said : voiceReply r w ≡ Message w (at .event)
@@ -184,7 +242,6 @@ module _ (e : End) (n : Reader) (w : ℕ) (formed : wordForm w ≡ true) where
     unfolding heardOf
     voice-heard =
         let only : parameter.wordHeard p w ≡ parameter.hearing p NoEvent = rw other in
-        let kept : withParameter e k p ≡ e = ap (withParameters e) (set-getD (e .parameters) k blank) in
         let m = eqb-false (opcodeOf w) 0xB other in
         let stores : receiver.wordHeard r NoEvent w .receiver ≡ put w r =
         receiver-quiet r (opcodeOf w) k (firstOf w) (secondOf w) (λ q. absurd (m q)) in
@@ -212,17 +269,12 @@ module _ (e : End) (n : Reader) (w : ℕ) (formed : wordForm w ≡ true) where
     voice-step : takenStep e (messageTaken n w false) ≡ messageStep e w
     voice-step = ap₂ stepped voice-end voice-said ∙ sym voice-heard
 
--- what holds of a test's two values
-by-value : (P : Bool → Type 0) (b : Bool) → (b ≡ true → P true) → (b ≡ false → P false) → P b
-by-value P true t f = t refl
-by-value P false t f = f refl
-
 -- a word of the reader, by its opcode
 module _ (e : End) (r : Reader) (w : ℕ) where
   message-step : wordForm w ≡ true → takenStep e (messageTaken r w (eqb (opcodeOf w) 0xB)) ≡ messageStep e w
   message-step formed =
       by-value (λ c. takenStep e (messageTaken r w c) ≡ messageStep e w) (eqb (opcodeOf w) 0xB)
-      (λ c. control-step e r w formed (eqb-true (opcodeOf w) 0xB c))
+      (λ c. change-step e r w formed (eqb-true (opcodeOf w) 0xB c))
       (λ c. voice-step e r w formed c)
 
   word-step : Formed w → takenStep e (wordTaken r w) ≡ messageStep e w

@@ -3,5 +3,6 @@ pub mod Item
 pub mod Walk
 pub mod Lending
 pub mod Onward
+pub mod Storing
 pub mod Words
 pub mod Lent

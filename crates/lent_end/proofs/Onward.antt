@@ -82,7 +82,7 @@ signature-with Y = record {
   result = plain (λ κs. R.the-row);
 }
 
-abbrev ended-with : RattleType → Ended
+abbrev pub ended-with : RattleType → Ended
 ended-with Y = record { signature = signature-with Y; kept = (yes, (yes, (yes, tt))) }
 
 -- a receiver and a word

@@ -42,6 +42,7 @@ readerOnly r reply =
       presses = false;
       word = 0;
       channel = 0;
+      brightens = false;
     }
 
 -- a word; the one opcode of no message that a reader can make is F, from a running status that it never gets by bytes
@@ -57,6 +58,7 @@ wordTaken r w =
       presses = eqb (opcodeOf w) 0xD;
       word = w;
       channel = channelOf w;
+      brightens = eqb (firstOf w) 74;
     }
 
 abbrev pub readTaken : Reader → Read → Taken
@@ -78,10 +80,9 @@ placedOf r w =
       zones = zonesOf r;
       role = roleHeld (r .layout) (channelOf w);
       event = placedEvent (zonesOf r) w;
-      reply = Message w (placedEvent (zonesOf r) w);
     }
 
--- the event of a message that is no control change, by its channel's role
+-- the event, by its channel's role, of a brightness or of a message that is no control change
 abbrev pub voiceEvent : Zones → MpeRole → ℕ → MpeEvent
 voiceEvent z role.NoZone opcode = NoZone
 voiceEvent z (role.Manager zone) opcode = Zone zone true
@@ -106,8 +107,6 @@ controlledOf p at w =
       state = parameter.controlled p (firstOf w) (secondOf w) .state;
       zones = toldOf p at w .zones;
       settles = settlesBy w (toldOf p at w .event);
-      brightens = eqb (firstOf w) 74;
-      brightness = secondOf w;
       event = toldOf p at w .event;
       reply = Message w (toldOf p at w .event);
     }
@@ -126,21 +125,18 @@ voicedEnd e t =
     withReceiver e (withPressures (e .receiver) (set (e .receiver .pressure) (t .channel % 16) (firstOf (t .word))))
     else e
 
-abbrev pub brightEnd : End → ℕ → ℕ → End
-brightEnd e channel brightness =
-    withReceiver e (withBrightnesses (e .receiver) (set (e .receiver .brightness) (channel % 16) brightness))
+abbrev pub brightEnd : End → Taken → End
+brightEnd e t =
+    withReceiver e (withBrightnesses (e .receiver) (set (e .receiver .brightness) (t .channel % 16) (secondOf (t .word))))
 
 abbrev pub settledEnd : End → Zones → ℕ → MpeEvent → End
 settledEnd e z w event = withReceiver e (settled (e .receiver) z w event)
 
-abbrev pub receiverEnd : End → ℕ → ℕ → Controlled → End
-receiverEnd e w channel c =
-    if c .settles then settledEnd e (c .zones) w (c .event) else
-    if c .brightens then brightEnd e channel (c .brightness) else
-    e
+abbrev pub receiverEnd : End → ℕ → Controlled → End
+receiverEnd e w c = if c .settles then settledEnd e (c .zones) w (c .event) else e
 
 abbrev pub parameterEnd : End → ℕ → ℕ → Controlled → End
-parameterEnd e w channel c = receiverEnd (withParameter e (channel % 16) (c .state)) w channel c
+parameterEnd e w channel c = receiverEnd (withParameter e (channel % 16) (c .state)) w c
 
 abbrev pub controlledAt : End → ℕ → ℕ → Placed → Controlled
 controlledAt e w channel at = controlledOf (parameterAt e (channel % 16)) at w
@@ -155,8 +151,15 @@ controlEnd e t = controlledEnd e (t .word) (t .channel) (placedOf (e .receiver) 
 abbrev pub controlReply : End → Taken → Reply
 controlReply e t = controlledAt e (t .word) (t .channel) (placedOf (e .receiver) (t .word)) .reply
 
+-- a control change: a brightness, or another
+abbrev pub changedEnd : End → Taken → End
+changedEnd e t = if t .brightens then brightEnd e t else controlEnd e t
+
+abbrev pub changedReply : End → Taken → Reply
+changedReply e t = if t .brightens then voiceReply (e .receiver) (t .word) else controlReply e t
+
 abbrev pub toldEnd : End → Taken → End
-toldEnd e t = if t .control then controlEnd e t else voicedEnd e t
+toldEnd e t = if t .control then changedEnd e t else voicedEnd e t
 
 abbrev pub toldReply : End → Taken → Reply
-toldReply e t = if t .control then controlReply e t else voiceReply (e .receiver) (t .word)
+toldReply e t = if t .control then changedReply e t else voiceReply (e .receiver) (t .word)

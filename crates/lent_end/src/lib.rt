@@ -30,24 +30,23 @@ struct Taken {
     presses: bool,
     word: u32,
     channel: usize,
+    // Of a control change: the controller is 74, brightness.
+    brightens: bool,
 }
 
-// The zones, the role of a message's channel in them, and the event and the reply where no parameter event decides.
+// The zones, the role of a message's channel in them, and the event where no parameter event decides.
 struct Placed {
     zones: Zones,
     role: MpeRole,
     event: MpeEvent,
-    reply: Reply,
 }
 
-// What a control change makes of a channel's parameters, of the zones and of the channel's controls.
+// What a control change other than a brightness makes of a channel's parameters and of the zones.
 struct Controlled {
     state: ParameterState,
     zones: Zones,
-    // More of the receiver is altered than a brightness.
+    // The receiver is altered.
     settles: bool,
-    brightens: bool,
-    brightness: u8,
     event: MpeEvent,
     reply: Reply,
 }
@@ -65,6 +64,7 @@ fn reader_only(reader: Reader, reply: Reply) -> Taken
         presses: false,
         word: 0,
         channel: 0,
+        brightens: false,
     }
 }
 
@@ -84,6 +84,7 @@ fn take_word(reader: Reader, word: u32) -> Taken
         presses: opcode(word) == 0xD,
         word,
         channel: channel(word) as usize,
+        brightens: first_data(word) == 74,
     }
 }
 
@@ -118,15 +119,10 @@ fn place(receiver: MpeReceiver, word: u32) -> Placed
     let zones = receiver.zones();
     let role = zones.role(channel(word));
     let event = zones.event(role, opcode(word), channel(word), first_data(word));
-    Placed {
-        zones,
-        role,
-        event,
-        reply: Reply::Message(word, event),
-    }
+    Placed { zones, role, event }
 }
 
-// The event of a message that is no control change, by its channel's role: its data bytes do not matter.
+// The event, by its channel's role, of a brightness or of a message that is no control change.
 fn voice_event(zones: Zones, role: MpeRole, opcode: u8) -> MpeEvent
     ensures { λ r. ⌜ r ≡ voiceEvent zones role opcode ⌝ }
 {
@@ -157,7 +153,7 @@ fn voice_event(zones: Zones, role: MpeRole, opcode: u8) -> MpeEvent
     }
 }
 
-// The reply to a message that is no control change.
+// The reply to a brightness or to a message that is no control change.
 fn voice_reply(receiver: MpeReceiver, word: u32) -> Reply
     ensures { λ r. ⌜ r ≡ voiceReply receiver word ⌝ }
 {
@@ -191,8 +187,6 @@ fn control(state: ParameterState, placed: Placed, word: u32) -> Controlled
         state: next,
         zones: after,
         settles: settles(word, event),
-        brightens: first_data(word) == 74,
-        brightness: second_data(word),
         event,
         reply: Reply::Message(word, event),
     }
@@ -221,6 +215,15 @@ fn store_voice(end: &mut End, t: Taken, reply: Reply) -> Reply
     }
 }
 
+// A brightness is stored where it stands.
+fn store_brightness(end: &mut End, t: Taken, reply: Reply) -> Reply
+    ensures { λ r. ⌜ (r ≡ reply) × (now (end .exit) ≡ brightEnd (now (end .entry)) t) ⌝ }
+{
+    let k = t.channel % 16;
+    end.receiver.brightness[k] = second_data(t.word);
+    reply
+}
+
 // The receiver is settled as a whole.
 fn settle_receiver(end: &mut End, zones: Zones, word: u32, event: MpeEvent, reply: Reply) -> Reply
     ensures { λ r. ⌜ (r ≡ reply) × (now (end .exit) ≡ settledEnd (now (end .entry)) zones word event) ⌝ }
@@ -231,15 +234,11 @@ fn settle_receiver(end: &mut End, zones: Zones, word: u32, event: MpeEvent, repl
 }
 
 // What a control change alters of the receiver.
-fn tell_receiver(end: &mut End, word: u32, channel: usize, c: Controlled) -> Reply
-    ensures { λ r. ⌜ (r ≡ c .reply) × (now (end .exit) ≡ receiverEnd (now (end .entry)) word channel c) ⌝ }
+fn tell_receiver(end: &mut End, word: u32, c: Controlled) -> Reply
+    ensures { λ r. ⌜ (r ≡ c .reply) × (now (end .exit) ≡ receiverEnd (now (end .entry)) word c) ⌝ }
 {
     if c.settles {
         return settle_receiver(end, c.zones, word, c.event, c.reply);
-    } else if c.brightens {
-        let k = channel % 16;
-        end.receiver.brightness[k] = c.brightness;
-        return c.reply;
     } else {
         return c.reply;
     }
@@ -251,7 +250,7 @@ fn tell_parameter(end: &mut End, word: u32, channel: usize, c: Controlled) -> Re
 {
     let k = channel % 16;
     end.parameters[k] = c.state;
-    tell_receiver(end, word, channel, c)
+    tell_receiver(end, word, c)
 }
 
 // A control change that has its place in the zones reaches its channel's parameters first.
@@ -281,12 +280,25 @@ fn tell_voice(end: &mut End, t: Taken) -> Reply
     store_voice(end, t, reply)
 }
 
+// A brightness, which reaches no parameter and no zone: its reply, and what it stores.
+fn tell_brightness(end: &mut End, t: Taken) -> Reply
+    ensures { λ r. ⌜ (r ≡ voiceReply (now (end .entry) .receiver) (t .word)) × (now (end .exit) ≡ brightEnd (now (end .entry)) t) ⌝ }
+{
+    let receiver = end.receiver;
+    let reply = voice_reply(receiver, t.word);
+    store_brightness(end, t, reply)
+}
+
 // A message of a channel.
 fn tell(end: &mut End, t: Taken) -> Reply
     ensures { λ r. ⌜ (r ≡ toldReply (now (end .entry)) t) × (now (end .exit) ≡ toldEnd (now (end .entry)) t) ⌝ }
 {
     if t.control {
-        return tell_control(end, t);
+        if t.brightens {
+            return tell_brightness(end, t);
+        } else {
+            return tell_control(end, t);
+        }
     } else {
         return tell_voice(end, t);
     }

@@ -4,7 +4,6 @@ use borrow.Author.Needs.{needs}
 use Prim.Native.Nat.{ℕ}
 use mathlib.Core.Bool.{Bool}
 use mathlib.Core.Path.{_≡_}
-use lib.Dec.{eqb}
 use Rattle.ump.specs.Word.{opcodeOf, channelOf, firstOf, secondOf}
 use Rattle.parameters.specs.declared.Heard.{Heard}
 use Rattle.parameters.specs.declared.ParameterState.{ParameterState}
@@ -42,14 +41,8 @@ tell-requires c κs = search needs
 settles-requires : tie.Need-settles-requires
 settles-requires c κs = search needs
 
-first-data-requires-3 : tie.Need-first-data-requires-3
-first-data-requires-3 c κs = search needs
-
-second-data-requires-2 : tie.Need-second-data-requires-2
-second-data-requires-2 c κs = search needs
-
 -- the calls that make it
-made : (p : ParameterState) (at : Placed) (w : ℕ) {f s o k g i v : ℕ} {h : Heard} {t : Told} {more : Bool}
+made : (p : ParameterState) (at : Placed) (w : ℕ) {f s o k g : ℕ} {h : Heard} {t : Told} {more : Bool}
     → f ≡ firstOf w
     → s ≡ secondOf w
     → h ≡ parameter.controlled p f s
@@ -58,23 +51,19 @@ made : (p : ParameterState) (at : Placed) (w : ℕ) {f s o k g i v : ℕ} {h : H
     → g ≡ firstOf w
     → t ≡ toldAs (at .zones) k (at .role) (at .event) (saidBy o (h .event)) g
     → more ≡ settlesBy w (t .event)
-    → i ≡ firstOf w
-    → v ≡ secondOf w
     → record {
       state = h .state;
       zones = t .zones;
       settles = more;
-      brightens = eqb i 74;
-      brightness = v;
       event = t .event;
       reply = Message w (t .event);
     }
     ≡ controlledOf p at w
-made p at w pf ps ph po pk pg pt pm pi pv = cc
+made p at w pf ps ph po pk pg pt pm = cc
 
 returns : tie.Need-returns
 returns c =
-    let b = c .before .before .before in
+    let b = c .before in
     let d = b .before .before .before .before in
     let e = d .before .before in
     let a = e .before .before .before .before .args in
@@ -86,9 +75,7 @@ returns c =
     (b .before .before .before .channel .ensures)
     (b .before .before .first-data2 .ensures)
     (b .before .tell .ensures)
-    (c .before .before .settles .ensures)
-    (c .before .first-data3 .ensures)
-    (c .second-data2 .ensures)
+    (c .settles .ensures)
 
 pub control-spec : {M : Type 1} → statement M
 control-spec =
@@ -102,6 +89,4 @@ control-spec =
     first-data-requires-2
     tell-requires
     settles-requires
-    first-data-requires-3
-    second-data-requires-2
     returns)

@@ -11,7 +11,6 @@ use Rattle.mpe_zones.specs.declared.Zones.{Zones}
 use Rattle.mpe_zones.specs.Zones.{roleHeld}
 use Rattle.mpe_zones.specs.Told.{eventOf}
 use Rattle.mpe_receiver.specs.State.{zonesOf}
-use Rattle.receiving_end.specs.declared.end.Reply.the-variants.{Message}
 use Rattle.lent_end.specs.Lent.{placedOf}
 use Rattle.lent_end.proofs.place.Statement.{statement}
 use Rattle.lent_end.proofs.place.Tie as tie
@@ -46,7 +45,7 @@ made : (r : MpeReceiver) (w : ℕ) {z : Zones} {ro : MpeRole} {event : MpeEvent}
     → k ≡ channelOf w
     → f ≡ firstOf w
     → event ≡ eventOf z k ro o f
-    → record { zones = z; role = ro; event = event; reply = Message w event } ≡ placedOf r w
+    → record { zones = z; role = ro; event = event } ≡ placedOf r w
 made r w pz pj pr po pk pf pe = cc
 
 returns : tie.Need-returns

@@ -15,38 +15,28 @@ use mir.Syntax as S
 use mir.Syntax.{named, w8, w16, w32, w64}
 use mir.Raw.{raw as rawTy}
 use mir.Val.{Val, vbool, vint, vptr, Vals, vstruct, vcons, vnil, ofList}
-use base.Logic.{SProp, guard, ent, sep, emp, via, fst∗, snd∗, exE, id⊢}
-use base.Fml.{GName, Lft, Share, ftrue, fat, flft, fres}
-use prog.Memory.{Memory, fieldOf}
-use prog.Routine.{Routine}
-use prog.Wp.{Heap, Calls, Loops, WpFn, Tables}
-use ghost.Atoms.{Atoms, sem}
-use contract.Monad.{Fun, fact}
+use base.Logic.{SProp, guard, ent, sep}
+use base.Fml.{GName, Lft, Share, fat}
+use prog.Memory.{fieldOf}
+use prog.Wp.{Heap, Calls, Loops, WpFn}
+use ghost.Atoms.{Atoms}
+use contract.Monad.{fact}
 use contract.Running.{givenOf, tables, tablesOf}
-use types.Kit.{Given, given, mean, learn, updating, now, check, ‵, raw, _⊛_, some, later, _$_, _∵_, !, qed, by, move, keep, drop, use0, use1, split, join, pick, rewrite, fsplit, fsplit3, fjoin, suffices, frame, await, done}
+use types.Kit.{Given, given, mean, learn, ‵, raw, _⊛_, later, _$_, _∵_, !, qed, move, use0, use1, split, join, rewrite, await, done}
 use types.Run.{look, init, forget, stop, hop, fld, from, load, lit, bin, addr, of-opd, and-then, no-more, assigns, land, first, branches, returns-within, enter, alloc1, alloc0, params1, pass1, pass0, free1, free0}
 use types.Part.{whole, look-in, store-in}
-use types.Tokens.{name-done}
-use sound.WpLaws.{FmC, fmOf, WpFn-mono}
-use denote.RattleType.{owns}
-use denote.Laws.{Is, shows}
+use sound.WpLaws.{FmC}
+use denote.Laws.{Is}
 use denote.Array.{Array, arrayVal}
-use denote.Memory.{mem}
-use denote.Plain.{uint-vals, uint-tells, uint-makes}
-use denote.Builtin.{u8, u16, u32}
-use denote.Ref.{RefT, MutRef, ptr-vals, mut-tells}
-use denote.Signature.{plain}
-use denote.Steps.{owned, peeks, heard, nothing}
+use denote.Plain.{uint-tells}
+use denote.Builtin.{u8, u16}
+use denote.Steps.{heard}
 use denote.Struct.Laws as LL
 use denote.Enum.Laws as EL
-use denote.Triple.Statement.{Contract, Triple}
+use denote.Triple.Statement.{Triple}
 use denote.Triple.Call.{calls-from}
-use denote.Triple.Clauses.{ensured, lasts}
-use denote.Triple.Entry.{onEntry}
-use denote.Triple.Spec.{Meets, tripleOf}
+use denote.Triple.Spec.{tripleOf}
 use denote.Triple.Table.{entered, cited}
-use denote.Triple.Walked.{says, Stays, gave-ref, stay-none, walkOf, AllGo, goes-none, goes-gave-ref, Walks, ends-at, walked, walk-meets}
-use denote.Exit.{yes}
 use Rattle.lent_end.specs.Lent.{voicedEnd, bendIn}
 use Rattle.ump.specs.Choice.{if_then_else_}
 use Rattle.ump.specs.Word.{firstOf}
@@ -54,8 +44,10 @@ use Rattle.receiving_end.specs.declared.end.End.{End}
 use Rattle.receiving_end.specs.declared.end.Reply.{Reply}
 use Rattle.lent_end.specs.declared.Taken.{Taken}
 use Rattle.lent_end.proofs.Item.{item, count-is, put-is, machines, set-machines, putItems, byte-here, same, taken, untaken}
-use Rattle.lent_end.proofs.Walk.{Typed, member, Gives, since, told}
+use Rattle.lent_end.proofs.Walk.{Typed, member, Gives, since}
 use Rattle.lent_end.proofs.Lending as L
+use Rattle.lent_end.proofs.Onward.{taken-val}
+use Rattle.lent_end.proofs.Storing.{Number, number, Post, lending, ends, meets}
 use Rattle.lent_end.proofs.Lending.{end-val, reply-val}
 use Rattle.receiving_end.proofs.end.End as T
 use Rattle.receiving_end.proofs.end.End.Laws as T′
@@ -65,11 +57,9 @@ use Rattle.lent_end.proofs.Taken as Tk
 use Rattle.lent_end.proofs.Taken.Laws as Tk′
 use Rattle.mpe_receiver.proofs.MpeReceiver as Rv
 use Rattle.mpe_receiver.proofs.MpeReceiver.Laws as Rv′
-use Rattle.lent_end.proofs.bend_in as bend-in
 use Rattle.lent_end.proofs.bend_in.Symbol as bend-in-def
 use Rattle.lent_end.proofs.bend_in.Symbol.{name as bend-in-name}
 use Rattle.lent_end.proofs.bend_in.Met as bend-in-thm
-use Rattle.ump.proofs.channel_voice1.first_data as first-data
 use Rattle.ump.proofs.channel_voice1.first_data.Symbol as first-data-def
 use Rattle.ump.proofs.channel_voice1.first_data.Symbol.{name as first-data-name}
 use Rattle.ump.proofs.channel_voice1.first_data.Met as first-data-thm
@@ -154,61 +144,7 @@ module _ {M : Type 1} (𝓤 : URA M) (H : Heap 𝓤) (A : Atoms 𝓤) (W : Given
       assigns ! (of-opd ! (load ! (from ! (stop !)) (look ! 6 refl))) (from ! (hop ! (look ! 2 refl) (stop !))) (store-in ! 0 (item ! ps k _ _ (byte-here k _) k<16 (pressures-count was) refl (member ! 5 pressures-raw (member ! 2 receiver-raw (whole !)))) (pressed-typed (known .1))) $ assigns ! (of-opd ! (load ! (from ! (stop !)) (look ! 22 refl))) (from ! (stop !)) (init ! 28 refl reply-typed) $ join ! $ use1 W (later (raw (Post reply))) (pressed-left was (known .1) s u) $ await ! tt $ returns-within ! Post refl (look ! 27 refl) $ forget ! 1 refl $ forget ! 3 refl $ forget ! 5 refl $ forget ! 7 refl $ forget ! 17 refl $ forget ! 19 refl $ forget ! 21 refl $ forget ! 23 refl $ forget ! 25 refl $ forget ! 27 refl $ move ! (27 ∷ 28 ∷ 25 ∷ 26 ∷ 23 ∷ 24 ∷ 21 ∷ 22 ∷ 19 ∷ 20 ∷ 17 ∷ 18 ∷ 15 ∷ 16 ∷ 13 ∷ 14 ∷ 11 ∷ 12 ∷ 9 ∷ 10 ∷ 7 ∷ 8 ∷ 5 ∷ 6 ∷ 3 ∷ 4 ∷ 1 ∷ 2 ∷ []) $ free1 ! $ free1 ! $ free1 ! $ free1 ! $ free1 ! $ free1 ! $ free1 ! $ free1 ! $ free1 ! $ free1 ! $ free1 ! $ free1 ! $ free1 ! $ free1 ! $ free0 ! $ done !)))
       (λ u. assigns ! (of-opd ! (load ! (from ! (stop !)) (look ! 22 refl))) (from ! (stop !)) (init ! 28 refl reply-typed) $ join ! $ use1 W (later (raw (Post reply))) (stay was s u) $ await ! tt $ returns-within ! Post refl (look ! 27 refl) $ forget ! 7 refl $ forget ! 17 refl $ forget ! 19 refl $ forget ! 21 refl $ forget ! 23 refl $ forget ! 25 refl $ forget ! 27 refl $ move ! (27 ∷ 28 ∷ 25 ∷ 26 ∷ 23 ∷ 24 ∷ 21 ∷ 22 ∷ 19 ∷ 20 ∷ 17 ∷ 18 ∷ 15 ∷ 16 ∷ 13 ∷ 14 ∷ 11 ∷ 12 ∷ 9 ∷ 10 ∷ 7 ∷ 8 ∷ 5 ∷ 6 ∷ 3 ∷ 4 ∷ 1 ∷ 2 ∷ []) $ free1 ! $ free1 ! $ free1 ! $ free1 ! $ free1 ! $ free1 ! $ free1 ! $ free1 ! $ free1 ! $ free1 ! $ free1 ! $ free1 ! $ free1 ! $ free1 ! $ free0 ! $ done !)))))))))))))))))
 
-abbrev stayed : Stays (f.ended .signature .params) (f.ended .kept)
-stayed = (gave-ref (0 ∷ []) tt (plain (λ _. T.the-row)), (stay-none (λ _. Tk.the-row) yes, (stay-none (λ _. R.the-row) yes, tt)))
-
-module _ {M : Type 1} (𝓤 : URA M) (H : Heap 𝓤) (A : Atoms 𝓤) (mem : Memory → SProp 𝓤) (run : Routine → Fun 𝓤) where
-  abbrev BendIn : Contract 𝓤
-  BendIn = tripleOf 𝓤 H A bend-in.signature (bend-in.spec 𝓤 H A mem run)
-
-  bend-in-of : (w : ℕ) (y : ℕ) → ent 𝓤 (ensured 𝓤 H A bend-in.ended (bend-in.clauses 𝓤 H A mem run) tt (w, tt) tt y) (fact 𝓤 (y ≡ bendIn w))
-  bend-in-of w y = exE 𝓤 _ (λ ws. snd∗ 𝓤 (sem 𝓤 H A (lasts bend-in.ended tt (w, tt) ws)) (fact 𝓤 (y ≡ bendIn w)))
-
-  abbrev First : Contract 𝓤
-  First = tripleOf 𝓤 H A first-data.signature (first-data.spec 𝓤 H A mem run)
-
-  first-data-of : (w : ℕ) (y : ℕ) → ent 𝓤 (ensured 𝓤 H A first-data.ended (first-data.clauses 𝓤 H A mem run) tt (w, tt) tt y) (fact 𝓤 (y ≡ firstOf w))
-  first-data-of w y = exE 𝓤 _ (λ ws. snd∗ 𝓤 (sem 𝓤 H A (lasts first-data.ended tt (w, tt) ws)) (fact 𝓤 (y ≡ firstOf w)))
-
-module _ {M : Type 1} (𝓤 : URA M) (H : Heap 𝓤) (A : Atoms 𝓤) (W : Given 𝓤 H A) (at-mem : Memory → SProp 𝓤) (run : Routine → Fun 𝓤) (κ : Lft) (q : Share) (b o : ℕ) (γ : GName) (h : End) (t : Taken) (reply : Reply) (t-is : Is Tk.the-row t ((LL.val Tk.the-type Tk′.the-laws t) ∷ [])) (reply-is : Is R.the-row reply ((EL.val R.the-type R′.the-laws reply) ∷ [])) where
-  abbrev x : (RefT End × (Taken × (Reply × Unit {0})))
-  x = (record { ptr = (b, o); name = γ; now = h }, (t, (reply, tt)))
-
-  abbrev at : (List Val × (List Val × (List Val × Unit {0})))
-  at = (vptr b o ∷ [], ((LL.val Tk.the-type Tk′.the-laws t) ∷ [], ((EL.val R.the-type R′.the-laws reply) ∷ [], tt)))
-
-  abbrev Post : Val → SProp 𝓤
-  Post = walkOf 𝓤 H A f.ended stayed (f.clauses 𝓤 H A at-mem run) .post (((κ, tt), (q, tt), tt, x, at), tt)
-
-  abbrev Right : Reply → End → Type 0
-  Right r e = (r ≡ reply) × (e ≡ voicedEnd h t)
-
-  abbrev lending : End → SProp 𝓤
-  lending e = mean 𝓤 H A (L.lends 𝓤 H A W κ q b o γ e)
-
-  abbrev holding : SProp 𝓤
-  holding = mean 𝓤 H A (L.holds 𝓤 H A W κ q b o γ h)
-
-  exits : (e : End) (r : Reply) (v : Val) → Right r e → ent 𝓤 (L.Left 𝓤 H A W κ q b o γ e r v) (Post v)
-  exits e r v right =
-      qed W (‵ (flft κ q) ∷ ‵ (fres γ (T.the-row .coded .code e)) ∷ ‵ (R.the-row .own r (v ∷ [])) ∷ []) ∵
-      suffices ! _ (ends-at 𝓤 H A f.ended stayed (f.clauses 𝓤 H A at-mem run) W (((κ, tt), (q, tt), tt, x, at), tt) v r (e, (tt, (tt, tt))) (tt, (tt, (tt, tt)))) $ says ! right $ nothing ! $ move ! (1 ∷ 0 ∷ []) $ join ! $
-      frame ! $ nothing ! $ owned ! R.the-row (Is R.the-row) (EL.makes R.the-type R′.the-plain 𝓤 H A) reply _ reply-is $ fjoin ! $ owned ! Tk.the-row (Is Tk.the-row) (LL.makes Tk.the-type Tk′.the-plain 𝓤 H A) t _ t-is $ fjoin ! $ move ! (1 ∷ 0 ∷ []) $ fjoin ! $ done !
-
-  -- the borrow is given up, at the end e and with the reply r
-  ends : (e : End) (r : Reply) → Is R.the-row r (reply-val r ∷ []) → Right r e → ent 𝓤 (lending e) (H .⇛ (Post (reply-val r)))
-  ends e r is right =
-      qed W (L.lends 𝓤 H A W κ q b o γ e ∷ []) ∵ updating ! $ split ! $ fsplit3 ! $ drop ! $ name-done ! tt $ now ! $ owned ! R.the-row (Is R.the-row) (EL.makes R.the-type R′.the-plain 𝓤 H A) r _ is $ move ! (3 ∷ 1 ∷ 0 ∷ []) $ keep ! (0 ∷ 1 ∷ 2 ∷ []) $ by ! (exits e r _ right)
-
-  entry : ent 𝓤 (onEntry 𝓤 H A f.signature (κ, tt) (q, tt) x at) (lending h)
-  entry = qed W ((‵ (flft κ q) ⊛ ‵ ftrue) ∷ ‵ (owns (MutRef (named 0) κ T.the-row ∷ Tk.the-row ∷ R.the-row ∷ []) x at) ∷ []) ∵ split ! $ move ! (2 ∷ []) $ fsplit ! $ move ! (0 ∷ 2 ∷ []) $ keep ! (0 ∷ 1 ∷ []) $ done !
-
-  abbrev bend-in-to : (w₁ : ℕ) → BendIn 𝓤 H A at-mem run .Ghost
-  bend-in-to w₁ = ((tt, tt, tt, (w₁, tt), ((vint w32 w₁) ∷ [], tt)), tt)
-
-  abbrev first-data-to : (w₁ : ℕ) → First 𝓤 H A at-mem run .Ghost
-  first-data-to w₁ = ((tt, tt, tt, (w₁, tt), ((vint w32 w₁) ∷ [], tt)), tt)
-
+module _ {M : Type 1} (𝓤 : URA M) (H : Heap 𝓤) (A : Atoms 𝓤) (W : Given 𝓤 H A) (κ : Lft) (q : Share) (b o : ℕ) (γ : GName) (h : End) (t : Taken) (reply : Reply) (t-is : Is Tk.the-row t (taken-val t ∷ [])) (reply-is : Is R.the-row reply (reply-val reply ∷ [])) where
   abbrev slot : ℕ
   slot = t .channel % 16
 
@@ -291,59 +227,28 @@ module _ {M : Type 1} (𝓤 : URA M) (H : Heap 𝓤) (A : Atoms 𝓤) (W : Given
   pressed-spelled : putItems (end-val h) 2 5 (set (machines (vint w8) same (h .receiver .pressure)) slot (vint w8 pressure)) ≡ end-val pressed
   pressed-spelled = ap (λ (us : List Val). putItems (end-val h) 2 5 us) (set-machines (vint w8) same (h .receiver .pressure) slot pressure)
 
-  module _ (C : Calls 𝓤 H) (Λ : Loops 𝓤 H) (fm : FmC 𝓤 H (W .laws) C) (bend-in-known : Triple 𝓤 (C bend-in-name) (BendIn 𝓤 H A at-mem run)) (first-data-known : Triple 𝓤 (C first-data-name) (First 𝓤 H A at-mem run)) where
-    bend-in-gives : (w₁ : ℕ) (w₁-fits : w₁ < 2 ^ 32) → Gives H C bend-in-name ((vint w32 w₁) ∷ []) (vint w16 (bendIn w₁)) (Is u16 (bendIn w₁) ((vint w16 (bendIn w₁)) ∷ []))
-    bend-in-gives w₁ w₁-fits = record {
-      Ready = BendIn 𝓤 H A at-mem run .pre (bend-in-to w₁);
-      Q = BendIn 𝓤 H A at-mem run .post (bend-in-to w₁);
-      ready = qed W [] ∵ nothing ! $ owned ! u32 (Is u32) (uint-makes 𝓤 H A W w32) w₁ _ (refl, w₁-fits) $ fjoin ! $ nothing ! $ join ! $ frame ! $ done !;
-      met = bend-in-known (bend-in-to w₁);
-      answered = λ u. qed W (raw (BendIn 𝓤 H A at-mem run .post (bend-in-to w₁) u) ∷ []) ∵ updating ! $
-          use1 W (later (some (λ (y : ℕ). (‵ ftrue ⊛ ‵ (u16 .own y (u ∷ []))) ⊛ raw (ensured 𝓤 H A bend-in.ended (bend-in.clauses 𝓤 H A at-mem run) tt (w₁, tt) tt y)))) (id⊢ 𝓤 _) $ await ! tt $ pick ! (λ y.
-          split ! $ move ! (1 ∷ []) $ use1 W (raw (fact 𝓤 (y ≡ bendIn w₁))) (bend-in-of 𝓤 H A at-mem run w₁ y) $ heard ! (y ≡ bendIn w₁) (λ right. split ! $ drop ! $
-          peeks ! u16 (Is u16) (shows 𝓤 H A u16) y (u ∷ []) (λ is. drop ! $ now ! $ check ! (told u16 (uint-vals w16) (uint-tells w16) y (bendIn w₁) u right is) $ done !)));
-    }
-
-    first-data-gives : (w₁ : ℕ) (w₁-fits : w₁ < 2 ^ 32) → Gives H C first-data-name ((vint w32 w₁) ∷ []) (vint w8 (firstOf w₁)) (Is u8 (firstOf w₁) ((vint w8 (firstOf w₁)) ∷ []))
-    first-data-gives w₁ w₁-fits = record {
-      Ready = First 𝓤 H A at-mem run .pre (first-data-to w₁);
-      Q = First 𝓤 H A at-mem run .post (first-data-to w₁);
-      ready = qed W [] ∵ nothing ! $ owned ! u32 (Is u32) (uint-makes 𝓤 H A W w32) w₁ _ (refl, w₁-fits) $ fjoin ! $ nothing ! $ join ! $ frame ! $ done !;
-      met = first-data-known (first-data-to w₁);
-      answered = λ u. qed W (raw (First 𝓤 H A at-mem run .post (first-data-to w₁) u) ∷ []) ∵ updating ! $
-          use1 W (later (some (λ (y : ℕ). (‵ ftrue ⊛ ‵ (u8 .own y (u ∷ []))) ⊛ raw (ensured 𝓤 H A first-data.ended (first-data.clauses 𝓤 H A at-mem run) tt (w₁, tt) tt y)))) (id⊢ 𝓤 _) $ await ! tt $ pick ! (λ y.
-          split ! $ move ! (1 ∷ []) $ use1 W (raw (fact 𝓤 (y ≡ firstOf w₁))) (first-data-of 𝓤 H A at-mem run w₁ y) $ heard ! (y ≡ firstOf w₁) (λ right. split ! $ drop ! $
-          peeks ! u8 (Is u8) (shows 𝓤 H A u8) y (u ∷ []) (λ is. drop ! $ now ! $ check ! (told u8 (uint-vals w8) (uint-tells w8) y (firstOf w₁) u right is) $ done !)));
-    }
-
-    walk : ent 𝓤 (onEntry 𝓤 H A f.signature (κ, tt) (q, tt) x at) (WpFn 𝓤 H C Λ code.function (vptr b o ∷ (LL.val Tk.the-type Tk′.the-laws t) ∷ (EL.val R.the-type R′.the-laws reply) ∷ []) Post)
-    walk = via 𝓤 (lending h) entry (walks 𝓤 H A W C Λ fm R′.mir (T.the-row .written .ty) Tk′.mir T′.mir b o
-        refl refl refl refl refl refl refl refl refl refl
-        _ _ _ _ (t .bends) (t .presses) (vint w32 (t .word)) (t .channel) _ (reply-val reply) _ _ _ _ _ _ (machines (vint w16) same (h .receiver .«pitch_bend»)) (machines (vint w8) same (h .receiver .pressure)) _ (vint w16 bend) (vint w8 pressure)
-        (LL.lawful Tk.the-type Tk′.the-laws 𝓤 H A W .typed t _ t-is .0) channel-fits (EL.lawful R.the-type R′.the-laws 𝓤 H A W tt .typed reply _ reply-is .0)
-        (lending h) Post holding (Is T.the-row h (end-val h ∷ [])) (Is u16 bend (vint w16 bend ∷ [])) (Is u8 pressure (vint w8 pressure ∷ []))
-        (bend-in-gives (t .word) word-fits) (λ is. (tt, record { fits = is .1 })) (first-data-gives (t .word) word-fits) (λ is. (tt, record { fits = is .1 }))
-        (L.opens-here 𝓤 H A W κ q b o γ h) bends-count pressures-count
-        (λ was is s. since W (L.closes-at 𝓤 H A W κ q b o γ h _ bent bent-spelled (bent-made was is)) (ends bent reply reply-is (refl, bent-right s)))
-        (λ was is s u. since W (L.closes-at 𝓤 H A W κ q b o γ h _ pressed pressed-spelled (pressed-made was is)) (ends pressed reply reply-is (refl, pressed-right s u)))
-        (λ was s u. since W (L.closes-at 𝓤 H A W κ q b o γ h _ h refl was) (ends h reply reply-is (refl, same-right s u))))
-
-module _ {M : Type 1} (𝓤 : URA M) (H : Heap 𝓤) (A : Atoms 𝓤) (W : Given 𝓤 H A) (at-mem : Memory → SProp 𝓤) (run : Routine → Fun 𝓤) where
-  store-voice-walks : (C : Calls 𝓤 H) (Λ : Loops 𝓤 H) → FmC 𝓤 H (W .laws) C → Triple 𝓤 (C bend-in-name) (BendIn 𝓤 H A at-mem run) → Triple 𝓤 (C first-data-name) (First 𝓤 H A at-mem run) → Walks 𝓤 H A f.ended stayed (WpFn 𝓤 H C Λ code.function) (f.clauses 𝓤 H A at-mem run)
-  store-voice-walks C Λ fm bend-in-known first-data-known = walked 𝓤 H A f.ended stayed (f.clauses 𝓤 H A at-mem run) (WpFn 𝓤 H C Λ code.function) (λ κs. (ptr-vals, (LL.vals Tk.the-type Tk′.the-laws, (EL.vals R.the-type R′.the-laws, tt)))) (λ κs. (mut-tells (named 0) (κs .0) T.the-row, (LL.tells Tk.the-type Tk′.the-laws, (EL.tells R.the-type R′.the-laws, tt))))
-      (λ κs qs bounds a _ are. via 𝓤 _ (fst∗ 𝓤 _ (emp 𝓤)) (walk 𝓤 H A W at-mem run (κs .0) (qs .0) (a .0 .ptr .0) (a .0 .ptr .1) (a .0 .name) (a .0 .now) (a .1 .0) (a .1 .1 .0) (are .1 .0) (are .1 .1 .0) C Λ fm bend-in-known first-data-known))
-
-  goes : AllGo 𝓤 H A W 1 (f.signature .params) (f.ended .kept) stayed
-  goes = (goes-gave-ref 𝓤 H A W 1 0 tt (plain (λ _. T.the-row)), (goes-none 𝓤 H A W 1 (λ _. Tk.the-row) yes (λ κs x f. refl), (goes-none 𝓤 H A W 1 (λ _. R.the-row) yes (λ κs x f. refl), tt)))
-
-store-voice-meets : {M : Type 1} (𝓤 : URA M) (H : Heap 𝓤) (A : Atoms 𝓤) → Given 𝓤 H A → (at-mem : Memory → SProp 𝓤) (run : Routine → Fun 𝓤) (𝓣 : Tables 𝓤 H) → Triple 𝓤 (𝓣 .C bend-in-name) (BendIn 𝓤 H A at-mem run) → Triple 𝓤 (𝓣 .C first-data-name) (First 𝓤 H A at-mem run) → Meets 𝓤 H A f.signature (WpFn 𝓤 H (𝓣 .C) (𝓣 .Λ) code.function) (f.spec 𝓤 H A at-mem run)
-store-voice-meets 𝓤 H A W at-mem run 𝓣 bend-in-known first-data-known = walk-meets 𝓤 H A f.ended stayed W (goes 𝓤 H A W at-mem run) (f.clauses 𝓤 H A at-mem run) (WpFn 𝓤 H (𝓣 .C) (𝓣 .Λ) code.function) (WpFn-mono 𝓤 H (W .laws) 𝓣 code.function) (store-voice-walks 𝓤 H A W at-mem run (𝓣 .C) (𝓣 .Λ) (fmOf 𝓤 H (W .laws) 𝓣) bend-in-known first-data-known)
+  walk : (C : Calls 𝓤 H) (Λ : Loops 𝓤 H) → FmC 𝓤 H (W .laws) C → Triple 𝓤 (C bend-in-name) (Number 𝓤 H A w16 bendIn) → Triple 𝓤 (C first-data-name) (Number 𝓤 H A w8 firstOf)
+      → ent 𝓤 (lending 𝓤 H A W voicedEnd κ q b o γ h t reply t-is reply-is h) (WpFn 𝓤 H C Λ code.function (vptr b o ∷ taken-val t ∷ reply-val reply ∷ []) (Post 𝓤 H A W voicedEnd κ q b o γ h t reply t-is reply-is))
+  walk C Λ fm bend-in-known first-data-known =
+      let after : (e : End) → e ≡ voicedEnd h t → ent 𝓤 (mean 𝓤 H A (L.lends 𝓤 H A W κ q b o γ e)) (H .⇛ (Post 𝓤 H A W voicedEnd κ q b o γ h t reply t-is reply-is (reply-val reply))) = ends 𝓤 H A W voicedEnd κ q b o γ h t reply t-is reply-is in
+      walks 𝓤 H A W C Λ fm R′.mir (T.the-row .written .ty) Tk′.mir T′.mir b o
+      refl refl refl refl refl refl refl refl refl refl
+      _ _ _ _ (t .bends) (t .presses) (vint w32 (t .word)) (t .channel) _ (reply-val reply) _ _ _ _ _ _ (machines (vint w16) same (h .receiver .«pitch_bend»)) (machines (vint w8) same (h .receiver .pressure)) _ (vint w16 bend) (vint w8 pressure)
+      (LL.lawful Tk.the-type Tk′.the-laws 𝓤 H A W .typed t _ t-is .0) channel-fits (EL.lawful R.the-type R′.the-laws 𝓤 H A W tt .typed reply _ reply-is .0)
+      (lending 𝓤 H A W voicedEnd κ q b o γ h t reply t-is reply-is h) (Post 𝓤 H A W voicedEnd κ q b o γ h t reply t-is reply-is) (mean 𝓤 H A (L.holds 𝓤 H A W κ q b o γ h)) (Is T.the-row h (end-val h ∷ [])) (Is u16 bend (vint w16 bend ∷ [])) (Is u8 pressure (vint w8 pressure ∷ []))
+      (number 𝓤 H A W C bend-in-name w16 bendIn bend-in-known (t .word) word-fits) (λ is. (tt, record { fits = is .1 })) (number 𝓤 H A W C first-data-name w8 firstOf first-data-known (t .word) word-fits) (λ is. (tt, record { fits = is .1 }))
+      (L.opens-here 𝓤 H A W κ q b o γ h) bends-count pressures-count
+      (λ was is s. since W (L.closes-at 𝓤 H A W κ q b o γ h _ bent bent-spelled (bent-made was is)) (after bent (bent-right s)))
+      (λ was is s u. since W (L.closes-at 𝓤 H A W κ q b o γ h _ pressed pressed-spelled (pressed-made was is)) (after pressed (pressed-right s u)))
+      (λ was s u. since W (L.closes-at 𝓤 H A W κ q b o γ h _ h refl was) (after h (same-right s u)))
 
 pub store-voice-spec : {M : Type 1} → stated.statement M
 unfolding code.routine tablesOf
 store-voice-spec 𝓤 H 𝓜 𝓖 𝓡 =
+    let bends-known = cited 𝓤 H (Number 𝓤 H (𝓖 .A) w16 bendIn) 𝓜 𝓡 code.env bend-in-name bend-in-def.routine code.calls-lent-end·bend-in (bend-in-thm.met 𝓤 H 𝓜 𝓖 𝓡) in
+    let first-known = cited 𝓤 H (Number 𝓤 H (𝓖 .A) w8 firstOf) 𝓜 𝓡 code.env first-data-name first-data-def.routine code.calls-ump·channel-voice1·first-data (first-data-thm.met 𝓤 H 𝓜 𝓖 𝓡) in
+    let 𝓣 = tablesOf 𝓤 H 𝓜 (tables 𝓤 H 𝓜 𝓡 code.env) in
     entered 𝓤 H (tripleOf 𝓤 H (𝓖 .A) f.signature (f.spec 𝓤 H (𝓖 .A) (𝓜 .mem) (𝓡 .run)))
     (tables 𝓤 H 𝓜 𝓡 code.env .C) (tables 𝓤 H 𝓜 𝓡 code.env .Λ) store-voice-name code.function (code.unfolded 𝓤 H 𝓜 𝓡)
-    (store-voice-meets 𝓤 H (𝓖 .A) (givenOf 𝓤 H 𝓜 𝓖) (𝓜 .mem) (𝓡 .run) (tablesOf 𝓤 H 𝓜 (tables 𝓤 H 𝓜 𝓡 code.env))
-    (cited 𝓤 H (BendIn 𝓤 H (𝓖 .A) (𝓜 .mem) (𝓡 .run)) 𝓜 𝓡 code.env bend-in-name bend-in-def.routine code.calls-lent-end·bend-in (bend-in-thm.met 𝓤 H 𝓜 𝓖 𝓡))
-    (cited 𝓤 H (First 𝓤 H (𝓖 .A) (𝓜 .mem) (𝓡 .run)) 𝓜 𝓡 code.env first-data-name first-data-def.routine code.calls-ump·channel-voice1·first-data (first-data-thm.met 𝓤 H 𝓜 𝓖 𝓡)))
+    (meets 𝓤 H (𝓖 .A) (givenOf 𝓤 H 𝓜 𝓖) voicedEnd 𝓣 code.function
+    (λ κ q b o γ h t reply t-is reply-is fm. walk 𝓤 H (𝓖 .A) (givenOf 𝓤 H 𝓜 𝓖) κ q b o γ h t reply t-is reply-is (𝓣 .C) (𝓣 .Λ) fm bends-known first-known))

@@ -33,9 +33,12 @@ channel-requires c κs = search needs
 cast-t13 : tie.Need-cast-t13
 cast-t13 c = search needs
 
+first-data-requires : tie.Need-first-data-requires
+first-data-requires c κs = search needs
+
 returns-2 : tie.Need-returns-2
 returns-2 c =
-    let b = c .before .before .before .before .before in
+    let b = c .before .before .before .before .before .before in
     let a = b .before .args in
     let f : eqb (opcodeOf (a .word)) 0xF ≡ false = search (auto, ← b .opcode .ensures) in
     rw f cc
@@ -52,4 +55,5 @@ take-word-spec =
     opcode-requires-4
     channel-requires
     cast-t13
+    first-data-requires
     returns-2)

@@ -1,4 +1,4 @@
--- `tell` meets its contract: a walk of its MIR, by hand. The borrow stays shut and is passed on for good, with the message, to `tell_control` or to `tell_voice`. All that the proof knows of the two is that they meet their contracts.
+-- `tell` meets its contract: a walk of its MIR, by hand. The borrow stays shut and is passed on for good, with the message, to `tell_brightness`, `tell_control` or `tell_voice`. All that the proof knows of the three is that they meet their contracts.
 -- The walk is over MIR types that are variables; the real types are put in afterwards.
 -- Assumes nothing.
 use mathlib.Core.Path.{_≡_, refl, sym, _∙_}
@@ -25,7 +25,7 @@ use denote.Triple.Statement.{Triple}
 use denote.Triple.Call.{calls-from}
 use denote.Triple.Spec.{Meets, tripleOf}
 use denote.Triple.Table.{entered, cited}
-use Rattle.lent_end.specs.Lent.{toldReply, toldEnd, controlReply, controlEnd, voiceReply, voicedEnd}
+use Rattle.lent_end.specs.Lent.{toldReply, toldEnd, changedReply, changedEnd, controlReply, controlEnd, voiceReply, voicedEnd, brightEnd}
 use Rattle.receiving_end.specs.declared.end.End.{End}
 use Rattle.receiving_end.specs.declared.end.Reply.{Reply}
 use Rattle.lent_end.specs.declared.Taken.{Taken}
@@ -37,6 +37,9 @@ use Rattle.receiving_end.proofs.end.Reply.Laws as R′
 use Rattle.lent_end.proofs.Taken as Tk
 use Rattle.lent_end.proofs.Taken.Laws as Tk′
 use Rattle.receiving_end.proofs.end.End.Laws as T′
+use Rattle.lent_end.proofs.tell_brightness.Symbol as bright-def
+use Rattle.lent_end.proofs.tell_brightness.Symbol.{name as bright-name}
+use Rattle.lent_end.proofs.tell_brightness.Met as bright-thm
 use Rattle.lent_end.proofs.tell_control.Symbol as control-def
 use Rattle.lent_end.proofs.tell_control.Symbol.{name as control-name}
 use Rattle.lent_end.proofs.tell_control.Met as control-thm
@@ -54,41 +57,51 @@ shape σR ηT σTk σT = record {
   lifetimes = 1;
   outlives = [];
   params = 2;
-  locals = S.local σR S.valueLocal ∷ S.local (S.tyRef (named 0) S.mut ηT) S.valueLocal ∷ S.local σTk S.valueLocal ∷ S.local S.tyBool S.valueLocal ∷ S.local (S.tyRef S.erased S.mut ηT) S.valueLocal ∷ S.local (S.tyRef S.erased S.mut ηT) S.valueLocal ∷ [];
+  locals = S.local σR S.valueLocal ∷ S.local (S.tyRef (named 0) S.mut ηT) S.valueLocal ∷ S.local σTk S.valueLocal ∷ S.local S.tyBool S.valueLocal ∷ S.local S.tyBool S.valueLocal ∷ S.local (S.tyRef S.erased S.mut ηT) S.valueLocal ∷ S.local (S.tyRef S.erased S.mut ηT) S.valueLocal ∷ S.local (S.tyRef S.erased S.mut ηT) S.valueLocal ∷ [];
   body =
       (S.seq (S.assign (S.place 3 ([])) (S.rvOpd (S.copy (S.place 2 (S.field 3 ∷ [])))))
       (S.seq (S.cond (S.copy (S.place 3 ([])))
-      (S.seq (S.assign (S.place 4 ([])) (S.addrOf (S.place 1 (S.deref σT ∷ []))))
-      (S.seq (S.call control-name ((S.copy (S.place 4 ([]))) ∷ (S.copy (S.place 2 ([]))) ∷ []) (S.place 0 ([])))
-      S.return))
+      (S.seq (S.assign (S.place 4 ([])) (S.rvOpd (S.copy (S.place 2 (S.field 8 ∷ [])))))
+      (S.cond (S.copy (S.place 4 ([])))
       (S.seq (S.assign (S.place 5 ([])) (S.addrOf (S.place 1 (S.deref σT ∷ []))))
-      (S.seq (S.call voice-name ((S.copy (S.place 5 ([]))) ∷ (S.copy (S.place 2 ([]))) ∷ []) (S.place 0 ([])))
+      (S.seq (S.call bright-name ((S.copy (S.place 5 ([]))) ∷ (S.copy (S.place 2 ([]))) ∷ []) (S.place 0 ([])))
+      S.return))
+      (S.seq (S.assign (S.place 6 ([])) (S.addrOf (S.place 1 (S.deref σT ∷ []))))
+      (S.seq (S.call control-name ((S.copy (S.place 6 ([]))) ∷ (S.copy (S.place 2 ([]))) ∷ []) (S.place 0 ([])))
+      S.return))))
+      (S.seq (S.assign (S.place 7 ([])) (S.addrOf (S.place 1 (S.deref σT ∷ []))))
+      (S.seq (S.call voice-name ((S.copy (S.place 7 ([]))) ∷ (S.copy (S.place 2 ([]))) ∷ []) (S.place 0 ([])))
       S.return)))
       S.return));
 }
 
 -- The walk, where the types are variables, and so are the machine values that the code does not look into.
 module _ {M : Type 1} (𝓤 : URA M) (H : Heap 𝓤) (A : Atoms 𝓤) (W : Given 𝓤 H A) (C : Calls 𝓤 H) (Λ : Loops 𝓤 H) (fm : FmC 𝓤 H (W .laws) C) (σR ηT σTk σT : S.Ty) (b o : ℕ)
-    {d : ℕ} (control-at : fieldOf σTk 3 ≡ just (S.tyBool, d))
-    (t₀ t₁ t₂ : Val) (control : Bool) (ts : Vals)
-    (t-typed : Typed σTk (vstruct (vcons t₀ (vcons t₁ (vcons t₂ (vcons (vbool control) ts))))))
+    {d₃ d₈ : ℕ} (control-at : fieldOf σTk 3 ≡ just (S.tyBool, d₃)) (brightens-at : fieldOf σTk 8 ≡ just (S.tyBool, d₈))
+    (t₀ t₁ t₂ : Val) (control : Bool) (t₄ t₅ t₆ t₇ : Val) (brightens : Bool) (ts : Vals)
+    (t-typed : Typed σTk (vstruct (vcons t₀ (vcons t₁ (vcons t₂ (vcons (vbool control) (vcons t₄ (vcons t₅ (vcons t₆ (vcons t₇ (vcons (vbool brightens) ts)))))))))))
     (P : SProp 𝓤) (Post : Val → SProp 𝓤)
-    (controls : Holds control → Passes H C control-name (vptr b o ∷ (vstruct (vcons t₀ (vcons t₁ (vcons t₂ (vcons (vbool control) ts))))) ∷ []) σR P Post)
-    (voices : Holds (not control) → Passes H C voice-name (vptr b o ∷ (vstruct (vcons t₀ (vcons t₁ (vcons t₂ (vcons (vbool control) ts))))) ∷ []) σR P Post) where
-  walks : ent 𝓤 P (WpFn 𝓤 H C Λ (shape σR ηT σTk σT) (vptr b o ∷ (vstruct (vcons t₀ (vcons t₁ (vcons t₂ (vcons (vbool control) ts))))) ∷ []) Post)
+    (brights : Holds control → Holds brightens → Passes H C bright-name (vptr b o ∷ (vstruct (vcons t₀ (vcons t₁ (vcons t₂ (vcons (vbool control) (vcons t₄ (vcons t₅ (vcons t₆ (vcons t₇ (vcons (vbool brightens) ts)))))))))) ∷ []) σR P Post)
+    (controls : Holds control → Holds (not brightens) → Passes H C control-name (vptr b o ∷ (vstruct (vcons t₀ (vcons t₁ (vcons t₂ (vcons (vbool control) (vcons t₄ (vcons t₅ (vcons t₆ (vcons t₇ (vcons (vbool brightens) ts)))))))))) ∷ []) σR P Post)
+    (voices : Holds (not control) → Passes H C voice-name (vptr b o ∷ (vstruct (vcons t₀ (vcons t₁ (vcons t₂ (vcons (vbool control) (vcons t₄ (vcons t₅ (vcons t₆ (vcons t₇ (vcons (vbool brightens) ts)))))))))) ∷ []) σR P Post) where
+  walks : ent 𝓤 P (WpFn 𝓤 H C Λ (shape σR ηT σTk σT) (vptr b o ∷ (vstruct (vcons t₀ (vcons t₁ (vcons t₂ (vcons (vbool control) (vcons t₄ (vcons t₅ (vcons t₆ (vcons t₇ (vcons (vbool brightens) ts)))))))))) ∷ []) Post)
   walks =
-      qed W (raw P ∷ []) ∵ enter ! C Λ (shape σR ηT σTk σT) (vptr b o ∷ (vstruct (vcons t₀ (vcons t₁ (vcons t₂ (vcons (vbool control) ts))))) ∷ []) Post $
-      alloc1 ! (λ l₀. alloc1 ! (λ l₁. alloc1 ! (λ l₂. alloc1 ! (λ l₃. alloc1 ! (λ l₄. alloc1 ! (λ l₅. alloc0 ! $ params1 ! $ pass1 ! (init ! 8 refl (tt, tt)) $ pass1 ! (init ! 6 refl t-typed) $ pass0 ! $ move ! (12 ∷ []) $
+      qed W (raw P ∷ []) ∵ enter ! C Λ (shape σR ηT σTk σT) (vptr b o ∷ (vstruct (vcons t₀ (vcons t₁ (vcons t₂ (vcons (vbool control) (vcons t₄ (vcons t₅ (vcons t₆ (vcons t₇ (vcons (vbool brightens) ts)))))))))) ∷ []) Post $
+      alloc1 ! (λ l₀. alloc1 ! (λ l₁. alloc1 ! (λ l₂. alloc1 ! (λ l₃. alloc1 ! (λ l₄. alloc1 ! (λ l₅. alloc1 ! (λ l₆. alloc1 ! (λ l₇. alloc0 ! $ params1 ! $ pass1 ! (init ! 12 refl (tt, tt)) $ pass1 ! (init ! 10 refl t-typed) $ pass0 ! $ move ! (16 ∷ []) $
       -- [what is lent; the last local; …; the first; …]
-      assigns ! (of-opd ! (load ! (from ! (fld ! control-at (stop !))) (look-in ! 7 (member ! 3 control-at (whole !))))) (from ! (stop !)) (init ! 5 refl (tt, tt)) $ first ! $ branches ! (load ! (from ! (stop !)) (look ! 5 refl))
-      (λ s. assigns ! (addr ! (from ! (hop ! (look ! 9 refl) (stop !)))) (from ! (stop !)) (init ! 3 refl (tt, tt)) $ use1 W (later (raw ((controls s) .Ready))) ((controls s) .ready) $ await ! tt $
-      calls-from ! fm (raw ((controls s) .Ready)) _ ((controls s) .Q) ((controls s) .met) (and-then ! (load ! (from ! (stop !)) (look ! 3 refl)) (and-then ! (load ! (from ! (stop !)) (look ! 7 refl)) (no-more !))) (λ u. use1 W (later (given (Typed σR u) (raw (Post u)))) ((controls s) .answered u) $ await ! tt $ learn ! (λ typed.
-      land ! (from ! (stop !)) (init ! 11 refl typed) $ returns-within ! Post refl (look ! 11 refl) $ forget ! 3 refl $ forget ! 5 refl $ forget ! 7 refl $ forget ! 9 refl $ forget ! 11 refl $ move ! (11 ∷ 12 ∷ 9 ∷ 10 ∷ 7 ∷ 8 ∷ 5 ∷ 6 ∷ 3 ∷ 4 ∷ 1 ∷ 2 ∷ []) $ free1 ! $ free1 ! $ free1 ! $ free1 ! $ free1 ! $ free1 ! $ free0 ! $ done !)))
-      (λ s. assigns ! (addr ! (from ! (hop ! (look ! 9 refl) (stop !)))) (from ! (stop !)) (init ! 1 refl (tt, tt)) $ use1 W (later (raw ((voices s) .Ready))) ((voices s) .ready) $ await ! tt $
-      calls-from ! fm (raw ((voices s) .Ready)) _ ((voices s) .Q) ((voices s) .met) (and-then ! (load ! (from ! (stop !)) (look ! 1 refl)) (and-then ! (load ! (from ! (stop !)) (look ! 7 refl)) (no-more !))) (λ u. use1 W (later (given (Typed σR u) (raw (Post u)))) ((voices s) .answered u) $ await ! tt $ learn ! (λ typed.
-      land ! (from ! (stop !)) (init ! 11 refl typed) $ returns-within ! Post refl (look ! 11 refl) $ forget ! 1 refl $ forget ! 5 refl $ forget ! 7 refl $ forget ! 9 refl $ forget ! 11 refl $ move ! (11 ∷ 12 ∷ 9 ∷ 10 ∷ 7 ∷ 8 ∷ 5 ∷ 6 ∷ 3 ∷ 4 ∷ 1 ∷ 2 ∷ []) $ free1 ! $ free1 ! $ free1 ! $ free1 ! $ free1 ! $ free1 ! $ free0 ! $ done !)))))))))
+      assigns ! (of-opd ! (load ! (from ! (fld ! control-at (stop !))) (look-in ! 11 (member ! 3 control-at (whole !))))) (from ! (stop !)) (init ! 9 refl (tt, tt)) $ first ! $ branches ! (load ! (from ! (stop !)) (look ! 9 refl))
+      (λ s. assigns ! (of-opd ! (load ! (from ! (fld ! brightens-at (stop !))) (look-in ! 11 (member ! 8 brightens-at (whole !))))) (from ! (stop !)) (init ! 7 refl (tt, tt)) $ branches ! (load ! (from ! (stop !)) (look ! 7 refl))
+      (λ u. assigns ! (addr ! (from ! (hop ! (look ! 13 refl) (stop !)))) (from ! (stop !)) (init ! 5 refl (tt, tt)) $ use1 W (later (raw ((brights s u) .Ready))) ((brights s u) .ready) $ await ! tt $
+      calls-from ! fm (raw ((brights s u) .Ready)) _ ((brights s u) .Q) ((brights s u) .met) (and-then ! (load ! (from ! (stop !)) (look ! 5 refl)) (and-then ! (load ! (from ! (stop !)) (look ! 11 refl)) (no-more !))) (λ v. use1 W (later (given (Typed σR v) (raw (Post v)))) ((brights s u) .answered v) $ await ! tt $ learn ! (λ typed.
+      land ! (from ! (stop !)) (init ! 15 refl typed) $ returns-within ! Post refl (look ! 15 refl) $ forget ! 5 refl $ forget ! 7 refl $ forget ! 9 refl $ forget ! 11 refl $ forget ! 13 refl $ forget ! 15 refl $ move ! (15 ∷ 16 ∷ 13 ∷ 14 ∷ 11 ∷ 12 ∷ 9 ∷ 10 ∷ 7 ∷ 8 ∷ 5 ∷ 6 ∷ 3 ∷ 4 ∷ 1 ∷ 2 ∷ []) $ free1 ! $ free1 ! $ free1 ! $ free1 ! $ free1 ! $ free1 ! $ free1 ! $ free1 ! $ free0 ! $ done !)))
+      (λ u. assigns ! (addr ! (from ! (hop ! (look ! 13 refl) (stop !)))) (from ! (stop !)) (init ! 3 refl (tt, tt)) $ use1 W (later (raw ((controls s u) .Ready))) ((controls s u) .ready) $ await ! tt $
+      calls-from ! fm (raw ((controls s u) .Ready)) _ ((controls s u) .Q) ((controls s u) .met) (and-then ! (load ! (from ! (stop !)) (look ! 3 refl)) (and-then ! (load ! (from ! (stop !)) (look ! 11 refl)) (no-more !))) (λ v. use1 W (later (given (Typed σR v) (raw (Post v)))) ((controls s u) .answered v) $ await ! tt $ learn ! (λ typed.
+      land ! (from ! (stop !)) (init ! 15 refl typed) $ returns-within ! Post refl (look ! 15 refl) $ forget ! 3 refl $ forget ! 7 refl $ forget ! 9 refl $ forget ! 11 refl $ forget ! 13 refl $ forget ! 15 refl $ move ! (15 ∷ 16 ∷ 13 ∷ 14 ∷ 11 ∷ 12 ∷ 9 ∷ 10 ∷ 7 ∷ 8 ∷ 5 ∷ 6 ∷ 3 ∷ 4 ∷ 1 ∷ 2 ∷ []) $ free1 ! $ free1 ! $ free1 ! $ free1 ! $ free1 ! $ free1 ! $ free1 ! $ free1 ! $ free0 ! $ done !))))
+      (λ s. assigns ! (addr ! (from ! (hop ! (look ! 13 refl) (stop !)))) (from ! (stop !)) (init ! 1 refl (tt, tt)) $ use1 W (later (raw ((voices s) .Ready))) ((voices s) .ready) $ await ! tt $
+      calls-from ! fm (raw ((voices s) .Ready)) _ ((voices s) .Q) ((voices s) .met) (and-then ! (load ! (from ! (stop !)) (look ! 1 refl)) (and-then ! (load ! (from ! (stop !)) (look ! 11 refl)) (no-more !))) (λ v. use1 W (later (given (Typed σR v) (raw (Post v)))) ((voices s) .answered v) $ await ! tt $ learn ! (λ typed.
+      land ! (from ! (stop !)) (init ! 15 refl typed) $ returns-within ! Post refl (look ! 15 refl) $ forget ! 1 refl $ forget ! 9 refl $ forget ! 11 refl $ forget ! 13 refl $ forget ! 15 refl $ move ! (15 ∷ 16 ∷ 13 ∷ 14 ∷ 11 ∷ 12 ∷ 9 ∷ 10 ∷ 7 ∷ 8 ∷ 5 ∷ 6 ∷ 3 ∷ 4 ∷ 1 ∷ 2 ∷ []) $ free1 ! $ free1 ! $ free1 ! $ free1 ! $ free1 ! $ free1 ! $ free1 ! $ free1 ! $ free0 ! $ done !)))))))))))
 
--- what the three contracts say of the end and the message on entry, the reply, and the end on exit
+-- what the four contracts say of the end and the message on entry, the reply, and the end on exit
 abbrev Says : End → Taken → Reply → End → Type 0
 Says h t r e = (r ≡ toldReply h t) × (e ≡ toldEnd h t)
 
@@ -98,21 +111,36 @@ Controls h t r e = (r ≡ controlReply h t) × (e ≡ controlEnd h t)
 abbrev Voices : End → Taken → Reply → End → Type 0
 Voices h t r e = (r ≡ voiceReply (h .receiver) (t .word)) × (e ≡ voicedEnd h t)
 
-controls-right : (h : End) (t : Taken) → Holds (t .control) → (r : Reply) (e : End) → Controls h t r e → Says h t r e
-controls-right h t s r e said = (said .0 ∙ sym (taken (t .control) (controlReply h t) (voiceReply (h .receiver) (t .word)) s), said .1 ∙ sym (taken (t .control) (controlEnd h t) (voicedEnd h t) s))
+abbrev Brights : End → Taken → Reply → End → Type 0
+Brights h t r e = (r ≡ voiceReply (h .receiver) (t .word)) × (e ≡ brightEnd h t)
 
-voices-right : (h : End) (t : Taken) → Holds (not (t .control)) → (r : Reply) (e : End) → Voices h t r e → Says h t r e
-voices-right h t s r e said = (said .0 ∙ sym (untaken (t .control) (controlReply h t) (voiceReply (h .receiver) (t .word)) s), said .1 ∙ sym (untaken (t .control) (controlEnd h t) (voicedEnd h t) s))
+-- what the tests choose
+module _ (h : End) (t : Taken) (r : Reply) (e : End) where
+  abbrev Changes : Type 0
+  Changes = (r ≡ changedReply h t) × (e ≡ changedEnd h t)
 
-tell-meets : {M : Type 1} (𝓤 : URA M) (H : Heap 𝓤) (A : Atoms 𝓤) → Given 𝓤 H A → (𝓣 : Tables 𝓤 H) → Triple 𝓤 (𝓣 .C control-name) (Onto 𝓤 H A Controls) → Triple 𝓤 (𝓣 .C voice-name) (Onto 𝓤 H A Voices) → Meets 𝓤 H A signature (WpFn 𝓤 H (𝓣 .C) (𝓣 .Λ) code.function) (spec 𝓤 H A Says)
-tell-meets 𝓤 H A W 𝓣 control-known voice-known = meets 𝓤 H A W Says 𝓣 code.function (λ κ q b o γ h t t-is fm.
+  changes-right : Holds (t .control) → Changes → Says h t r e
+  changes-right s said = (said .0 ∙ sym (taken (t .control) (changedReply h t) (voiceReply (h .receiver) (t .word)) s), said .1 ∙ sym (taken (t .control) (changedEnd h t) (voicedEnd h t) s))
+
+  brights-right : Holds (t .control) → Holds (t .brightens) → Brights h t r e → Says h t r e
+  brights-right s u said = changes-right s (said .0 ∙ sym (taken (t .brightens) (voiceReply (h .receiver) (t .word)) (controlReply h t) u), said .1 ∙ sym (taken (t .brightens) (brightEnd h t) (controlEnd h t) u))
+
+  controls-right : Holds (t .control) → Holds (not (t .brightens)) → Controls h t r e → Says h t r e
+  controls-right s u said = changes-right s (said .0 ∙ sym (untaken (t .brightens) (voiceReply (h .receiver) (t .word)) (controlReply h t) u), said .1 ∙ sym (untaken (t .brightens) (brightEnd h t) (controlEnd h t) u))
+
+  voices-right : Holds (not (t .control)) → Voices h t r e → Says h t r e
+  voices-right s said = (said .0 ∙ sym (untaken (t .control) (changedReply h t) (voiceReply (h .receiver) (t .word)) s), said .1 ∙ sym (untaken (t .control) (changedEnd h t) (voicedEnd h t) s))
+
+tell-meets : {M : Type 1} (𝓤 : URA M) (H : Heap 𝓤) (A : Atoms 𝓤) → Given 𝓤 H A → (𝓣 : Tables 𝓤 H) → Triple 𝓤 (𝓣 .C bright-name) (Onto 𝓤 H A Brights) → Triple 𝓤 (𝓣 .C control-name) (Onto 𝓤 H A Controls) → Triple 𝓤 (𝓣 .C voice-name) (Onto 𝓤 H A Voices) → Meets 𝓤 H A signature (WpFn 𝓤 H (𝓣 .C) (𝓣 .Λ) code.function) (spec 𝓤 H A Says)
+tell-meets 𝓤 H A W 𝓣 bright-known control-known voice-known = meets 𝓤 H A W Says 𝓣 code.function (λ κ q b o γ h t t-is fm.
     walks 𝓤 H A W (𝓣 .C) (𝓣 .Λ) fm R′.mir (T.the-row .written .ty) Tk′.mir T′.mir b o
-    refl
-    _ _ _ (t .control) _
+    refl refl
+    _ _ _ (t .control) _ _ _ _ (t .brightens) _
     (LL.lawful Tk.the-type Tk′.the-laws 𝓤 H A W .typed t _ t-is .0)
     (lending 𝓤 H A W Says κ q b o γ h t t-is) (Post 𝓤 H A W Says κ q b o γ h t t-is)
-    (λ s. passes 𝓤 H A W Says κ q b o γ h t t-is (𝓣 .C) control-name Controls control-known (controls-right h t s))
-    (λ s. passes 𝓤 H A W Says κ q b o γ h t t-is (𝓣 .C) voice-name Voices voice-known (voices-right h t s)))
+    (λ s u. passes 𝓤 H A W Says κ q b o γ h t t-is (𝓣 .C) bright-name Brights bright-known (λ r e. brights-right h t r e s u))
+    (λ s u. passes 𝓤 H A W Says κ q b o γ h t t-is (𝓣 .C) control-name Controls control-known (λ r e. controls-right h t r e s u))
+    (λ s. passes 𝓤 H A W Says κ q b o γ h t t-is (𝓣 .C) voice-name Voices voice-known (λ r e. voices-right h t r e s)))
 
 pub tell-spec : {M : Type 1} → stated.statement M
 unfolding code.routine tablesOf
@@ -120,5 +148,6 @@ tell-spec 𝓤 H 𝓜 𝓖 𝓡 =
     entered 𝓤 H (tripleOf 𝓤 H (𝓖 .A) f.signature (f.spec 𝓤 H (𝓖 .A) (𝓜 .mem) (𝓡 .run)))
     (tables 𝓤 H 𝓜 𝓡 code.env .C) (tables 𝓤 H 𝓜 𝓡 code.env .Λ) tell-name code.function (code.unfolded 𝓤 H 𝓜 𝓡)
     (tell-meets 𝓤 H (𝓖 .A) (givenOf 𝓤 H 𝓜 𝓖) (tablesOf 𝓤 H 𝓜 (tables 𝓤 H 𝓜 𝓡 code.env))
+    (cited 𝓤 H (Onto 𝓤 H (𝓖 .A) Brights) 𝓜 𝓡 code.env bright-name bright-def.routine code.calls-lent-end·tell-brightness (bright-thm.met 𝓤 H 𝓜 𝓖 𝓡))
     (cited 𝓤 H (Onto 𝓤 H (𝓖 .A) Controls) 𝓜 𝓡 code.env control-name control-def.routine code.calls-lent-end·tell-control (control-thm.met 𝓤 H 𝓜 𝓖 𝓡))
     (cited 𝓤 H (Onto 𝓤 H (𝓖 .A) Voices) 𝓜 𝓡 code.env voice-name voice-def.routine code.calls-lent-end·tell-voice (voice-thm.met 𝓤 H 𝓜 𝓖 𝓡)))

@@ -2,7 +2,6 @@
 -- The walk is over MIR types that are variables; the real types are put in afterwards.
 -- Assumes nothing.
 use mathlib.Core.Path.{_≡_, refl, ap}
-use mathlib.Core.Bool.{not}
 use Prim.Native.Nat.{ℕ, _+_, _*_, _%_, _<_, _^_}
 use native.Mathlib.Omega.{arith}
 use mathlib.Core.List.{[], _∷_, List}
@@ -22,10 +21,9 @@ use prog.Wp.{Heap, Calls, Loops, WpFn, Tables}
 use ghost.Atoms.{Atoms}
 use contract.Monad.{Fun}
 use contract.Running.{givenOf, tables, tablesOf}
-use types.Kit.{Given, given, mean, learn, updating, now, ‵, raw, _⊛_, later, _$_, _∵_, !, qed, by, move, keep, drop, use1, split, join, fsplit, fsplit3, fjoin, suffices, frame, await, done}
-use types.Run.{look, init, forget, stop, hop, fld, from, load, lit, bin, addr, of-opd, and-then, no-more, assigns, land, first, returns, enter, alloc1, alloc0, params1, pass1, pass0, free1, free0}
+use types.Kit.{Given, given, mean, learn, updating, now, ‵, raw, _⊛_, later, _$_, _∵_, !, qed, move, keep, use1, split, join, fsplit, fjoin, suffices, frame, await, done}
+use types.Run.{look, init, forget, stop, hop, fld, from, load, lit, bin, addr, of-opd, and-then, no-more, assigns, land, returns, enter, alloc1, alloc0, params1, pass1, pass0, free1, free0}
 use types.Part.{whole, look-in, store-in}
-use types.Tokens.{name-done}
 use sound.WpLaws.{FmC, fmOf, WpFn-mono}
 use denote.RattleType.{owns}
 use denote.Laws.{Is}
@@ -37,7 +35,6 @@ use denote.Ref.{RefT, MutRef, ptr-vals, mut-tells}
 use denote.Signature.{plain}
 use denote.Steps.{owned, nothing}
 use denote.Struct.Laws as LL
-use denote.Enum.Laws as EL
 use denote.Triple.Statement.{Contract, Triple}
 use denote.Triple.Call.{calls-from}
 use denote.Triple.Entry.{onEntry}
@@ -53,7 +50,7 @@ use Rattle.lent_end.specs.declared.Controlled.{Controlled}
 use Rattle.lent_end.proofs.Item.{item, of-raw}
 use Rattle.lent_end.proofs.Walk.{Typed, member, Passes, passes-since}
 use Rattle.lent_end.proofs.Lending as L
-use Rattle.lent_end.proofs.Lending.{end-val, reply-val, state-val}
+use Rattle.lent_end.proofs.Lending.{end-val, state-val}
 use Rattle.receiving_end.proofs.end.End as T
 use Rattle.receiving_end.proofs.end.End.Laws as T′
 use Rattle.receiving_end.proofs.end.Reply as R
@@ -89,7 +86,7 @@ shape σR ηT σCt σT σPs = record {
       (S.seq (S.assign (S.place 8 ([])) (S.op2 S.offset (S.copy (S.place 7 ([]))) (S.copy (S.place 6 ([])))))
       (S.seq (S.assign (S.place 8 (S.deref σPs ∷ [])) (S.rvOpd (S.copy (S.place 4 (S.field 0 ∷ [])))))
       (S.seq (S.assign (S.place 9 ([])) (S.addrOf (S.place 1 (S.deref σT ∷ []))))
-      (S.seq (S.call next-name ((S.copy (S.place 9 ([]))) ∷ (S.copy (S.place 2 ([]))) ∷ (S.copy (S.place 3 ([]))) ∷ (S.copy (S.place 4 ([]))) ∷ []) (S.place 0 ([])))
+      (S.seq (S.call next-name ((S.copy (S.place 9 ([]))) ∷ (S.copy (S.place 2 ([]))) ∷ (S.copy (S.place 4 ([]))) ∷ []) (S.place 0 ([])))
       S.return)))))));
 }
 
@@ -100,7 +97,7 @@ module _ {M : Type 1} (𝓤 : URA M) (H : Heap 𝓤) (A : Atoms 𝓤) (W : Given
     (word-typed : Typed (S.tyInt w32) word) (n-fits : n < 2 ^ 64) (c-typed : Typed σCt (vstruct (vcons c₀ cs))) (state-typed : Typed σPs c₀)
     (P : SProp 𝓤) (Post : Val → SProp 𝓤) (Rest : SProp 𝓤) (Was : Type 0)
     (opens-up : ent 𝓤 P (H .⇛ (guard 𝓤 Was (sep 𝓤 (H .at fullShare (rawTy σT) b o (vstruct (vcons e₀ (vcons (vstruct (ofList es)) (vcons e₂ vnil))))) Rest)))) (count : Was → length es ≡ 16)
-    (next : Was → Passes H C next-name (vptr b o ∷ word ∷ vint w64 n ∷ (vstruct (vcons c₀ cs)) ∷ []) σR (sep 𝓤 (H .at fullShare (rawTy σT) b o (vstruct (vcons e₀ (vcons (vstruct (ofList (set es (n % 16) c₀))) (vcons e₂ vnil))))) Rest) Post) where
+    (next : Was → Passes H C next-name (vptr b o ∷ word ∷ (vstruct (vcons c₀ cs)) ∷ []) σR (sep 𝓤 (H .at fullShare (rawTy σT) b o (vstruct (vcons e₀ (vcons (vstruct (ofList (set es (n % 16) c₀))) (vcons e₂ vnil))))) Rest) Post) where
   abbrev k : ℕ
   k = n % 16
 
@@ -129,7 +126,7 @@ module _ {M : Type 1} (𝓤 : URA M) (H : Heap 𝓤) (A : Atoms 𝓤) (W : Given
       assigns ! (addr ! (from ! (hop ! (look ! 18 refl) (fld ! items-at (stop !))))) (from ! (stop !)) (init ! 6 refl (tt, tt)) $ assigns ! (bin ! (load ! (from ! (stop !)) (look ! 6 refl)) (load ! (from ! (stop !)) (look ! 8 refl)) tt) (from ! (stop !)) (init ! 4 refl (tt, tt)) $
       assigns ! (of-opd ! (load ! (from ! (fld ! state-at (stop !))) (look-in ! 12 (member ! 0 state-at (whole !))))) (from ! (hop ! (look ! 4 refl) (stop !))) (store-in ! 0 (of-raw ! (item ! es k _ _ here k<16 (count was) refl (member ! 1 items-raw (whole !)))) state-typed) $
       assigns ! (addr ! (from ! (hop ! (look ! 18 refl) (stop !)))) (from ! (stop !)) (init ! 2 refl (tt, tt)) $ join ! $ use1 W (later (raw ((next was) .Ready))) ((next was) .ready) $ await ! tt $
-      calls-from ! fm (raw ((next was) .Ready)) _ ((next was) .Q) ((next was) .met) (and-then ! (load ! (from ! (stop !)) (look ! 1 refl)) (and-then ! (load ! (from ! (stop !)) (look ! 15 refl)) (and-then ! (load ! (from ! (stop !)) (look ! 13 refl)) (and-then ! (load ! (from ! (stop !)) (look ! 11 refl)) (no-more !))))) (λ u. use1 W (later (given (Typed σR u) (raw (Post u)))) ((next was) .answered u) $ await ! tt $ learn ! (λ typed.
+      calls-from ! fm (raw ((next was) .Ready)) _ ((next was) .Q) ((next was) .met) (and-then ! (load ! (from ! (stop !)) (look ! 1 refl)) (and-then ! (load ! (from ! (stop !)) (look ! 15 refl)) (and-then ! (load ! (from ! (stop !)) (look ! 11 refl)) (no-more !)))) (λ u. use1 W (later (given (Typed σR u) (raw (Post u)))) ((next was) .answered u) $ await ! tt $ learn ! (λ typed.
       land ! (from ! (stop !)) (init ! 19 refl typed) $ returns ! (look ! 19 refl) $ forget ! 1 refl $ forget ! 3 refl $ forget ! 5 refl $ forget ! 7 refl $ forget ! 9 refl $ forget ! 11 refl $ forget ! 13 refl $ forget ! 15 refl $ forget ! 17 refl $ forget ! 19 refl $ move ! (19 ∷ 20 ∷ 17 ∷ 18 ∷ 15 ∷ 16 ∷ 13 ∷ 14 ∷ 11 ∷ 12 ∷ 9 ∷ 10 ∷ 7 ∷ 8 ∷ 5 ∷ 6 ∷ 3 ∷ 4 ∷ 1 ∷ 2 ∷ []) $ free1 ! $ free1 ! $ free1 ! $ free1 ! $ free1 ! $ free1 ! $ free1 ! $ free1 ! $ free1 ! $ free1 ! $ free0 ! $ done !)))))))))))))
 
 abbrev stayed : Stays (f.ended .signature .params) (f.ended .kept)
@@ -164,16 +161,11 @@ module _ {M : Type 1} (𝓤 : URA M) (H : Heap 𝓤) (A : Atoms 𝓤) (W : Given
       suffices ! _ (ends-at 𝓤 H A f.ended stayed (f.clauses 𝓤 H A at-mem run) W (((κ, tt), (q, tt), tt, x, at), tt) v r (e, (tt, (tt, (tt, tt)))) (tt, (tt, (tt, (tt, tt))))) $ says ! right $ nothing ! $ move ! (1 ∷ 0 ∷ []) $ join ! $
       frame ! $ nothing ! $ owned ! Ct.the-row (Is Ct.the-row) (LL.makes Ct.the-type Ct′.the-plain 𝓤 H A) c _ c-is $ fjoin ! $ owned ! usize (Is usize) (uint-makes 𝓤 H A W w64) channel _ (refl, channel-fits) $ fjoin ! $ owned ! u32 (Is u32) (uint-makes 𝓤 H A W w32) word _ (refl, word-fits) $ fjoin ! $ move ! (1 ∷ 0 ∷ []) $ fjoin ! $ done !
 
-  -- the borrow is given up, at the end e and with the reply r
-  ends : (e : End) (r : Reply) → Is R.the-row r (reply-val r ∷ []) → Right r e → ent 𝓤 (lending e) (H .⇛ (Post (reply-val r)))
-  ends e r is right =
-      qed W (L.lends 𝓤 H A W κ q b o γ e ∷ []) ∵ updating ! $ split ! $ fsplit3 ! $ drop ! $ name-done ! tt $ now ! $ owned ! R.the-row (Is R.the-row) (EL.makes R.the-type R′.the-plain 𝓤 H A) r _ is $ move ! (3 ∷ 1 ∷ 0 ∷ []) $ keep ! (0 ∷ 1 ∷ 2 ∷ []) $ by ! (exits e r _ right)
-
   entry : ent 𝓤 (onEntry 𝓤 H A f.signature (κ, tt) (q, tt) x at) (lending h)
   entry = qed W ((‵ (flft κ q) ⊛ ‵ ftrue) ∷ ‵ (owns (MutRef (named 0) κ T.the-row ∷ u32 ∷ usize ∷ Ct.the-row ∷ []) x at) ∷ []) ∵ split ! $ move ! (2 ∷ []) $ fsplit ! $ move ! (0 ∷ 2 ∷ []) $ keep ! (0 ∷ 1 ∷ []) $ done !
 
-  abbrev next-to : (e₁ : End) (word₁ : ℕ) (channel₁ : ℕ) (c₁ : Controlled) → Receiver 𝓤 H A at-mem run .Ghost
-  next-to e₁ word₁ channel₁ c₁ = (((κ, tt), (q, tt), tt, (record { ptr = (b, o); name = γ; now = e₁ }, (word₁, (channel₁, (c₁, tt)))), (vptr b o ∷ [], ((vint w32 word₁) ∷ [], ((vint w64 channel₁) ∷ [], ((LL.val Ct.the-type Ct′.the-laws c₁) ∷ [], tt))))), tt)
+  abbrev next-to : (e₁ : End) (word₁ : ℕ) (c₁ : Controlled) → Receiver 𝓤 H A at-mem run .Ghost
+  next-to e₁ word₁ c₁ = (((κ, tt), (q, tt), tt, (record { ptr = (b, o); name = γ; now = e₁ }, (word₁, (c₁, tt))), (vptr b o ∷ [], ((vint w32 word₁) ∷ [], ((LL.val Ct.the-type Ct′.the-laws c₁) ∷ [], tt)))), tt)
 
   abbrev put-in : End
   put-in = withParameter h (channel % 16) (c .state)
@@ -189,13 +181,13 @@ module _ {M : Type 1} (𝓤 : URA M) (H : Heap 𝓤) (A : Atoms 𝓤) (W : Given
   spelled = ap (λ (us : List Val). (vstruct (vcons (LL.val Rd.the-type Rd′.the-laws (h .reader)) (vcons (arrayVal us) (vcons (LL.val Rv.the-type Rv′.the-laws (h .receiver)) vnil))))) (L.put-parameter h (channel % 16) (c .state))
 
   module _ (C : Calls 𝓤 H) (Λ : Loops 𝓤 H) (fm : FmC 𝓤 H (W .laws) C) (next-known : Triple 𝓤 (C next-name) (Receiver 𝓤 H A at-mem run)) where
-    next-passes : (e₁ : End) (word₁ : ℕ) (channel₁ : ℕ) (c₁ : Controlled) (word₁-fits : word₁ < 2 ^ 32) (channel₁-fits : channel₁ < 2 ^ 64) (c₁-is : Is Ct.the-row c₁ ((LL.val Ct.the-type Ct′.the-laws c₁) ∷ [])) → ((r : Reply) (e : End) → (r ≡ c₁ .reply) × (e ≡ receiverEnd e₁ word₁ channel₁ c₁) → Right r e) → Passes H C next-name (vptr b o ∷ (vint w32 word₁) ∷ (vint w64 channel₁) ∷ (LL.val Ct.the-type Ct′.the-laws c₁) ∷ []) R′.mir (lending e₁) Post
-    next-passes e₁ word₁ channel₁ c₁ word₁-fits channel₁-fits c₁-is right = record {
-      Ready = Receiver 𝓤 H A at-mem run .pre (next-to e₁ word₁ channel₁ c₁);
-      Q = Receiver 𝓤 H A at-mem run .post (next-to e₁ word₁ channel₁ c₁);
-      ready = qed W (L.lends 𝓤 H A W κ q b o γ e₁ ∷ []) ∵ updating ! $ now ! $ split ! $ nothing ! $ owned ! Ct.the-row (Is Ct.the-row) (LL.makes Ct.the-type Ct′.the-plain 𝓤 H A) c₁ _ c₁-is $ fjoin ! $ owned ! usize (Is usize) (uint-makes 𝓤 H A W w64) channel₁ _ (refl, channel₁-fits) $ fjoin ! $ owned ! u32 (Is u32) (uint-makes 𝓤 H A W w32) word₁ _ (refl, word₁-fits) $ fjoin ! $ move ! (1 ∷ 0 ∷ []) $ fjoin ! $ nothing ! $ move ! (2 ∷ 0 ∷ []) $ join ! $ join ! $ frame ! $ done !;
-      met = next-known (next-to e₁ word₁ channel₁ c₁);
-      answered = L.answers 𝓤 H A W κ q b o γ Post Right exits (Unit {0} × (Unit {0} × (Unit {0} × Unit {0}))) (λ zs. fsep ftrue (fsep ftrue (fsep ftrue (ftrue)))) (λ r e. (r ≡ c₁ .reply) × (e ≡ receiverEnd e₁ word₁ channel₁ c₁)) right;
+    next-passes : (e₁ : End) (word₁ : ℕ) (c₁ : Controlled) (word₁-fits : word₁ < 2 ^ 32) (c₁-is : Is Ct.the-row c₁ ((LL.val Ct.the-type Ct′.the-laws c₁) ∷ [])) → ((r : Reply) (e : End) → (r ≡ c₁ .reply) × (e ≡ receiverEnd e₁ word₁ c₁) → Right r e) → Passes H C next-name (vptr b o ∷ (vint w32 word₁) ∷ (LL.val Ct.the-type Ct′.the-laws c₁) ∷ []) R′.mir (lending e₁) Post
+    next-passes e₁ word₁ c₁ word₁-fits c₁-is right = record {
+      Ready = Receiver 𝓤 H A at-mem run .pre (next-to e₁ word₁ c₁);
+      Q = Receiver 𝓤 H A at-mem run .post (next-to e₁ word₁ c₁);
+      ready = qed W (L.lends 𝓤 H A W κ q b o γ e₁ ∷ []) ∵ updating ! $ now ! $ split ! $ nothing ! $ owned ! Ct.the-row (Is Ct.the-row) (LL.makes Ct.the-type Ct′.the-plain 𝓤 H A) c₁ _ c₁-is $ fjoin ! $ owned ! u32 (Is u32) (uint-makes 𝓤 H A W w32) word₁ _ (refl, word₁-fits) $ fjoin ! $ move ! (1 ∷ 0 ∷ []) $ fjoin ! $ nothing ! $ move ! (2 ∷ 0 ∷ []) $ join ! $ join ! $ frame ! $ done !;
+      met = next-known (next-to e₁ word₁ c₁);
+      answered = L.answers 𝓤 H A W κ q b o γ Post Right exits (Unit {0} × (Unit {0} × Unit {0})) (λ zs. fsep ftrue (fsep ftrue (ftrue))) (λ r e. (r ≡ c₁ .reply) × (e ≡ receiverEnd e₁ word₁ c₁)) right;
     }
 
     walk : ent 𝓤 (onEntry 𝓤 H A f.signature (κ, tt) (q, tt) x at) (WpFn 𝓤 H C Λ code.function (vptr b o ∷ (vint w32 word) ∷ (vint w64 channel) ∷ (LL.val Ct.the-type Ct′.the-laws c) ∷ []) Post)
@@ -205,7 +197,7 @@ module _ {M : Type 1} (𝓤 : URA M) (H : Heap 𝓤) (A : Atoms 𝓤) (W : Given
         (tt, record { fits = word-fits }) channel-fits (LL.lawful Ct.the-type Ct′.the-laws 𝓤 H A W .typed c _ c-is .0) (LL.lawful Ps.the-type Ps′.the-laws 𝓤 H A W .typed (c .state) _ state-is .0)
         (lending h) Post holding (Is T.the-row h (end-val h ∷ []))
         (L.opens-here 𝓤 H A W κ q b o γ h) (L.parameters-count h)
-        (λ was. passes-since W (L.closes-at 𝓤 H A W κ q b o γ h _ put-in spelled (made was)) (next-passes put-in word channel c word-fits channel-fits c-is (λ r e said. said))))
+        (λ was. passes-since W (L.closes-at 𝓤 H A W κ q b o γ h _ put-in spelled (made was)) (next-passes put-in word c word-fits c-is (λ r e said. said))))
 
 module _ {M : Type 1} (𝓤 : URA M) (H : Heap 𝓤) (A : Atoms 𝓤) (W : Given 𝓤 H A) (at-mem : Memory → SProp 𝓤) (run : Routine → Fun 𝓤) where
   tell-parameter-walks : (C : Calls 𝓤 H) (Λ : Loops 𝓤 H) → FmC 𝓤 H (W .laws) C → Triple 𝓤 (C next-name) (Receiver 𝓤 H A at-mem run) → Walks 𝓤 H A f.ended stayed (WpFn 𝓤 H C Λ code.function) (f.clauses 𝓤 H A at-mem run)

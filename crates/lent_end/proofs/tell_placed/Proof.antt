@@ -2,7 +2,6 @@
 -- The walk is over MIR types that are variables; the real types are put in afterwards.
 -- Assumes nothing.
 use mathlib.Core.Path.{_≡_, refl, sym, ap, subst}
-use mathlib.Core.Bool.{not}
 use Prim.Native.Nat.{ℕ, _+_, _*_, _%_, _<_, _^_}
 use native.Mathlib.Omega.{arith}
 use mathlib.Core.List.{[], _∷_, List}
@@ -22,21 +21,19 @@ use prog.Wp.{Heap, Calls, Loops, WpFn, Tables}
 use ghost.Atoms.{Atoms, sem}
 use contract.Monad.{Fun, fact}
 use contract.Running.{givenOf, tables, tablesOf}
-use types.Kit.{Given, given, mean, learn, updating, now, check, ‵, raw, _⊛_, some, later, _$_, _∵_, !, qed, by, move, keep, drop, use0, use1, split, join, pick, rewrite, fsplit, fsplit3, fjoin, suffices, frame, await, done}
-use types.Run.{look, init, forget, stop, hop, fld, from, load, lit, bin, addr, of-opd, and-then, no-more, assigns, land, first, returns, enter, alloc1, alloc0, params1, pass1, pass0, free1, free0}
+use types.Kit.{Given, given, mean, learn, updating, now, check, ‵, raw, _⊛_, some, later, _$_, _∵_, !, qed, move, keep, drop, use0, use1, split, join, pick, rewrite, fsplit, fjoin, suffices, frame, await, done}
+use types.Run.{look, init, forget, stop, hop, fld, from, load, lit, bin, addr, of-opd, and-then, no-more, assigns, land, returns, enter, alloc1, alloc0, params1, pass1, pass0, free1, free0}
 use types.Part.{whole, look-in}
-use types.Tokens.{name-done}
 use sound.WpLaws.{FmC, fmOf, WpFn-mono}
 use denote.RattleType.{owns}
 use denote.Laws.{Is, shows}
 use denote.Memory.{mem}
-use denote.Plain.{uint-vals, uint-tells, uint-makes}
+use denote.Plain.{uint-makes}
 use denote.Builtin.{u32, usize}
 use denote.Ref.{RefT, MutRef, ptr-vals, mut-tells}
 use denote.Signature.{plain}
 use denote.Steps.{owned, peeks, heard, nothing}
 use denote.Struct.Laws as LL
-use denote.Enum.Laws as EL
 use denote.Triple.Statement.{Contract, Triple}
 use denote.Triple.Call.{calls-from}
 use denote.Triple.Clauses.{ensured, lasts}
@@ -56,7 +53,7 @@ use Rattle.lent_end.specs.declared.Placed.{Placed}
 use Rattle.lent_end.proofs.Item.{item, of-raw}
 use Rattle.lent_end.proofs.Walk.{Typed, member, Passes, Gives, passes-since, told}
 use Rattle.lent_end.proofs.Lending as L
-use Rattle.lent_end.proofs.Lending.{end-val, reply-val}
+use Rattle.lent_end.proofs.Lending.{end-val}
 use Rattle.receiving_end.proofs.end.End as T
 use Rattle.receiving_end.proofs.end.End.Laws as T′
 use Rattle.receiving_end.proofs.end.Reply as R
@@ -190,11 +187,6 @@ module _ {M : Type 1} (𝓤 : URA M) (H : Heap 𝓤) (A : Atoms 𝓤) (W : Given
       qed W (‵ (flft κ q) ∷ ‵ (fres γ (T.the-row .coded .code e)) ∷ ‵ (R.the-row .own r (v ∷ [])) ∷ []) ∵
       suffices ! _ (ends-at 𝓤 H A f.ended stayed (f.clauses 𝓤 H A at-mem run) W (((κ, tt), (q, tt), tt, x, at), tt) v r (e, (tt, (tt, tt))) (tt, (tt, (tt, tt)))) $ says ! right $ nothing ! $ move ! (1 ∷ 0 ∷ []) $ join ! $
       frame ! $ nothing ! $ owned ! Pl.the-row (Is Pl.the-row) (LL.makes Pl.the-type Pl′.the-plain 𝓤 H A) placed _ placed-is $ fjoin ! $ owned ! Tk.the-row (Is Tk.the-row) (LL.makes Tk.the-type Tk′.the-plain 𝓤 H A) t _ t-is $ fjoin ! $ move ! (1 ∷ 0 ∷ []) $ fjoin ! $ done !
-
-  -- the borrow is given up, at the end e and with the reply r
-  ends : (e : End) (r : Reply) → Is R.the-row r (reply-val r ∷ []) → Right r e → ent 𝓤 (lending e) (H .⇛ (Post (reply-val r)))
-  ends e r is right =
-      qed W (L.lends 𝓤 H A W κ q b o γ e ∷ []) ∵ updating ! $ split ! $ fsplit3 ! $ drop ! $ name-done ! tt $ now ! $ owned ! R.the-row (Is R.the-row) (EL.makes R.the-type R′.the-plain 𝓤 H A) r _ is $ move ! (3 ∷ 1 ∷ 0 ∷ []) $ keep ! (0 ∷ 1 ∷ 2 ∷ []) $ by ! (exits e r _ right)
 
   entry : ent 𝓤 (onEntry 𝓤 H A f.signature (κ, tt) (q, tt) x at) (lending h)
   entry = qed W ((‵ (flft κ q) ⊛ ‵ ftrue) ∷ ‵ (owns (MutRef (named 0) κ T.the-row ∷ Tk.the-row ∷ Pl.the-row ∷ []) x at) ∷ []) ∵ split ! $ move ! (2 ∷ []) $ fsplit ! $ move ! (0 ∷ 2 ∷ []) $ keep ! (0 ∷ 1 ∷ []) $ done !

@@ -1,7 +1,6 @@
 -- `tell_voice` meets its contract: it finds the reply and passes it on with the message to `store_voice`. All that the proof knows of the two is that they meet their contracts.
 -- Assumes nothing.
 use mathlib.Core.Path.{_≡_}
-use base.Logic.{SProp}
 use contract.Running.{givenOf, tables, tablesOf}
 use denote.Enum.Laws as EL
 use denote.Triple.Spec.{tripleOf}
