@@ -248,17 +248,27 @@ module _ {M : Type 1} (𝓤 : URA M) (H : Heap 𝓤) (A : Atoms 𝓤) (W : Given
           peeks ! Y (Is Y) (shows 𝓤 H A Y) y (u ∷ []) (λ is. drop ! $ now ! $ check ! (told Y (λ z. val z ∷ []) tells y (f s w) u right is) $ done !)));
     }
 
+  module _ (κ : Lft) (q : Share) (b o : ℕ) (γ : GName) (h : End) (t : Taken) (t-is : Is Tk.the-row t (taken-val t ∷ [])) where
+    abbrev found : Y .Denot
+    found = f (h .receiver) (t .word)
+
+    receiver-is : Is T.the-row h (end-val h ∷ []) → Is Rv.the-row (h .receiver) (receiver-val (h .receiver) ∷ [])
+    receiver-is was = LL.owed T.the-type T′.the-laws h (end-val h ∷ []) was .1 .1 .0
+
+    word-fits : t .word < 2 ^ 32
+    word-fits = LL.owed Tk.the-type Tk′.the-laws t _ t-is .1 .1 .1 .1 .1 .1 .0 .1
+
+    walk : (C : Calls 𝓤 H) (Λ : Loops 𝓤 H) → FmC 𝓤 H (W .laws) C → Triple 𝓤 (C find) (Finds 𝓤 H A Y f) → Triple 𝓤 (C next) (OntoWith 𝓤 H A Y Then)
+        → ent 𝓤 (lending 𝓤 H A W Says κ q b o γ h t t-is) (WpFn 𝓤 H C Λ (shape find next R′.mir (T.the-row .written .ty) Tk′.mir Rv′.mir σY T′.mir) (vptr b o ∷ taken-val t ∷ []) (Post 𝓤 H A W Says κ q b o γ h t t-is))
+    walk C Λ fm find-known next-known = walks 𝓤 H A W C Λ fm find next R′.mir (T.the-row .written .ty) Tk′.mir Rv′.mir σY T′.mir b o
+        refl refl refl
+        _ _ _ _ _ _ (vint w32 (t .word)) _ _ _ (receiver-val (h .receiver)) (val found)
+        (LL.lawful Tk.the-type Tk′.the-laws 𝓤 H A W .typed t _ t-is .0)
+        (lending 𝓤 H A W Says κ q b o γ h t t-is) (Post 𝓤 H A W Says κ q b o γ h t t-is) (mean 𝓤 H A (L.holds 𝓤 H A W κ q b o γ h)) (Is T.the-row h (end-val h ∷ [])) (Is Y found (val found ∷ []))
+        (L.opens-here 𝓤 H A W κ q b o γ h) (λ was. LL.lawful Rv.the-type Rv′.the-laws 𝓤 H A W .typed (h .receiver) _ (receiver-is was) .0)
+        (λ was. gives C find-known (h .receiver) (t .word) (receiver-is was) word-fits) (typed found)
+        (λ was is. passes-since W (L.closes-at 𝓤 H A W κ q b o γ h _ h refl was) (passes-with 𝓤 H A W Says κ q b o γ h t t-is C next Y val makes Then next-known found is (λ r e said. said)))
+
   pub onward : (𝓣 : Tables 𝓤 H) → Triple 𝓤 (𝓣 .C find) (Finds 𝓤 H A Y f) → Triple 𝓤 (𝓣 .C next) (OntoWith 𝓤 H A Y Then)
       → Meets 𝓤 H A signature (WpFn 𝓤 H (𝓣 .C) (𝓣 .Λ) (shape find next R′.mir (T.the-row .written .ty) Tk′.mir Rv′.mir σY T′.mir)) (spec 𝓤 H A Says)
-  onward 𝓣 find-known next-known = meets 𝓤 H A W Says 𝓣 _ (λ κ q b o γ h t t-is fm.
-      let receiver-is : Is T.the-row h (end-val h ∷ []) → Is Rv.the-row (h .receiver) (receiver-val (h .receiver) ∷ []) = λ was. LL.owed T.the-type T′.the-laws h (end-val h ∷ []) was .1 .1 .0 in
-      let word-fits : t .word < 2 ^ 32 = LL.owed Tk.the-type Tk′.the-laws t _ t-is .1 .1 .1 .1 .1 .1 .0 .1 in
-      let y = f (h .receiver) (t .word) in
-      walks 𝓤 H A W (𝓣 .C) (𝓣 .Λ) fm find next R′.mir (T.the-row .written .ty) Tk′.mir Rv′.mir σY T′.mir b o
-      refl refl refl
-      _ _ _ _ _ _ (vint w32 (t .word)) _ _ _ (receiver-val (h .receiver)) (val y)
-      (LL.lawful Tk.the-type Tk′.the-laws 𝓤 H A W .typed t _ t-is .0)
-      (lending 𝓤 H A W Says κ q b o γ h t t-is) (Post 𝓤 H A W Says κ q b o γ h t t-is) (mean 𝓤 H A (L.holds 𝓤 H A W κ q b o γ h)) (Is T.the-row h (end-val h ∷ [])) (Is Y y (val y ∷ []))
-      (L.opens-here 𝓤 H A W κ q b o γ h) (λ was. LL.lawful Rv.the-type Rv′.the-laws 𝓤 H A W .typed (h .receiver) _ (receiver-is was) .0)
-      (λ was. gives (𝓣 .C) find-known (h .receiver) (t .word) (receiver-is was) word-fits) (typed y)
-      (λ was is. passes-since W (L.closes-at 𝓤 H A W κ q b o γ h _ h refl was) (passes-with 𝓤 H A W Says κ q b o γ h t t-is (𝓣 .C) next Y val makes Then next-known y is (λ r e said. said))))
+  onward 𝓣 find-known next-known = meets 𝓤 H A W Says 𝓣 _ (λ κ q b o γ h t t-is fm. walk κ q b o γ h t t-is (𝓣 .C) (𝓣 .Λ) fm find-known next-known)

@@ -227,10 +227,12 @@ module _ {M : Type 1} (𝓤 : URA M) (H : Heap 𝓤) (A : Atoms 𝓤) (W : Given
   pressed-spelled : putItems (end-val h) 2 5 (set (machines (vint w8) same (h .receiver .pressure)) slot (vint w8 pressure)) ≡ end-val pressed
   pressed-spelled = ap (λ (us : List Val). putItems (end-val h) 2 5 us) (set-machines (vint w8) same (h .receiver .pressure) slot pressure)
 
+  after : (e : End) → e ≡ voicedEnd h t → ent 𝓤 (mean 𝓤 H A (L.lends 𝓤 H A W κ q b o γ e)) (H .⇛ (Post 𝓤 H A W voicedEnd κ q b o γ h t reply t-is reply-is (reply-val reply)))
+  after = ends 𝓤 H A W voicedEnd κ q b o γ h t reply t-is reply-is
+
   walk : (C : Calls 𝓤 H) (Λ : Loops 𝓤 H) → FmC 𝓤 H (W .laws) C → Triple 𝓤 (C bend-in-name) (Number 𝓤 H A w16 bendIn) → Triple 𝓤 (C first-data-name) (Number 𝓤 H A w8 firstOf)
       → ent 𝓤 (lending 𝓤 H A W voicedEnd κ q b o γ h t reply t-is reply-is h) (WpFn 𝓤 H C Λ code.function (vptr b o ∷ taken-val t ∷ reply-val reply ∷ []) (Post 𝓤 H A W voicedEnd κ q b o γ h t reply t-is reply-is))
   walk C Λ fm bend-in-known first-data-known =
-      let after : (e : End) → e ≡ voicedEnd h t → ent 𝓤 (mean 𝓤 H A (L.lends 𝓤 H A W κ q b o γ e)) (H .⇛ (Post 𝓤 H A W voicedEnd κ q b o γ h t reply t-is reply-is (reply-val reply))) = ends 𝓤 H A W voicedEnd κ q b o γ h t reply t-is reply-is in
       walks 𝓤 H A W C Λ fm R′.mir (T.the-row .written .ty) Tk′.mir T′.mir b o
       refl refl refl refl refl refl refl refl refl refl
       _ _ _ _ (t .bends) (t .presses) (vint w32 (t .word)) (t .channel) _ (reply-val reply) _ _ _ _ _ _ (machines (vint w16) same (h .receiver .«pitch_bend»)) (machines (vint w8) same (h .receiver .pressure)) _ (vint w16 bend) (vint w8 pressure)
