@@ -25,7 +25,7 @@ use Rattle.mpe_zones.specs.declared.MpeEvent.the-variants.{Ignored}
 use Rattle.mpe_zones.specs.declared.Told.{Told}
 use Rattle.mpe_zones.specs.declared.Zones.{Zones}
 use Rattle.mpe_zones.specs.Zones.{roleHeld}
-use Rattle.mpe_zones.specs.Told.{saidBy, onMember, eventOf, toldAs, changesBy}
+use Rattle.mpe_zones.specs.Told.{saidBy, onMember, eventOf, voiceOf, toldAs, changesBy}
 use Rattle.mpe_receiver.specs.State.{withBends, withPressures, withBrightnesses, zonesOf}
 use Rattle.mpe_receiver.specs.Receive.{stored, heardOf, settlesBy, settled}
 use Rattle.mpe_receiver.specs.Receive as receiver
@@ -43,7 +43,7 @@ use Rattle.lent_end.specs.declared.Taken.{Taken}
 use Rattle.lent_end.specs.declared.Placed.{Placed}
 use Rattle.lent_end.specs.declared.Controlled.{Controlled}
 use Rattle.receiving_end.specs.End.{blank, withReader, withReceiver, withParameter, parameterAt, stepped, messageAt, messageStep, answerStep, stepOf, stepReply, stepEnd}
-use Rattle.lent_end.specs.Lent.{readerOnly, bendIn, wordTaken, readTaken, takenOf, placedOf, voiceEvent, voiceReply, toldOf, controlledOf, voicedEnd, brightEnd, controlledAt, controlledEnd, toldEnd, toldReply}
+use Rattle.lent_end.specs.Lent.{readerOnly, bendIn, wordTaken, readTaken, takenOf, placedOf, voiceReply, toldOf, controlledOf, voicedEnd, brightEnd, controlledAt, controlledEnd, toldEnd, toldReply}
 use Rattle.lent_end.proofs.Words.{Formed, Fine, read-fine}
 
 -- what a taken byte makes of an end that has the reader after it
@@ -92,21 +92,21 @@ receiver-end e true x q = refl
 receiver-end e false x q = ap (withReceiver e) (q refl)
 
 -- the data bytes of a message that is no control change do not decide its event
-voice-event : (z : Zones) (channel : ℕ) (ro : MpeRole) (o a : ℕ) → eqb o 0xB ≡ false → eventOf z channel ro o a ≡ voiceEvent z ro o
+voice-event : (z : Zones) (channel : ℕ) (ro : MpeRole) (o a : ℕ) → eqb o 0xB ≡ false → eventOf z channel ro o a ≡ voiceOf z ro o
 unfolding onMember
 voice-event z channel role.NoZone o a other = refl
 voice-event z channel (role.Manager zone) o a other = refl
 voice-event z channel (role.Member zone) o a other = rw other
 
 -- nor does that of a brightness stand apart
-bright-event : (z : Zones) (channel : ℕ) (ro : MpeRole) (o a : ℕ) → o ≡ 0xB → a ≡ 74 → eventOf z channel ro o a ≡ voiceEvent z ro o
+bright-event : (z : Zones) (channel : ℕ) (ro : MpeRole) (o a : ℕ) → o ≡ 0xB → a ≡ 74 → eventOf z channel ro o a ≡ voiceOf z ro o
 unfolding onMember
 bright-event z channel role.NoZone o a control bright = refl
 bright-event z channel (role.Manager zone) o a control bright = refl
 bright-event z channel (role.Member zone) o a control bright = rw (control, bright)
 
 -- it tells of no change
-bright-still : (z : Zones) (ro : MpeRole) → changesBy (voiceEvent z ro 0xB) ≡ false
+bright-still : (z : Zones) (ro : MpeRole) → changesBy (voiceOf z ro 0xB) ≡ false
 bright-still z role.NoZone = refl
 bright-still z (role.Manager zone) = refl
 bright-still z (role.Member zone) = refl
@@ -199,7 +199,7 @@ module _ (e : End) (n : Reader) (w : ℕ) (formed : wordForm w ≡ true) where
       unfolding parameter.controlled parameter.numberStored
       bright-heard = rw bright
 
-      bright-told : t .event ≡ voiceEvent (zonesOf r) (at .role) (opcodeOf w)
+      bright-told : t .event ≡ voiceOf (zonesOf r) (at .role) (opcodeOf w)
       bright-told =
           let silent : toldAs (zonesOf r) k (at .role) (at .event) (saidBy (opcodeOf w) NoEvent) (firstOf w) .event ≡ at .event = rw control in
           ap (λ x. toldAs (zonesOf r) k (at .role) (at .event) (saidBy (opcodeOf w) (x .event)) (firstOf w) .event) bright-heard
@@ -212,7 +212,7 @@ module _ (e : End) (n : Reader) (w : ℕ) (formed : wordForm w ≡ true) where
       bright-lit : lit w r ≡ whole
       bright-lit =
           let seen : eqb (firstOf w) 74 ≡ true = rw bright in
-          let still : settlesBy w (voiceEvent (zonesOf r) (at .role) (opcodeOf w)) ≡ false = rw (bright, control) (bright-still (zonesOf r) (at .role)) in
+          let still : settlesBy w (voiceOf (zonesOf r) (at .role) (opcodeOf w)) ≡ false = rw (bright, control) (bright-still (zonesOf r) (at .role)) in
           sym (ap (λ (b : Bool). if b then lit w r else r) seen) ∙ unsettled-here (ap (settlesBy w) bright-told ∙ still)
 
       bright-end : brightEnd e (messageTaken n w true) ≡ controlAfter .end

@@ -1,21 +1,19 @@
 -- A lent end taken apart: what the by-value functions that the lent byte call makes answer. Private functions cite these; the byte call itself is held to End.antt.
 use Prim.Native.Nat.{ℕ, _+_, _*_, _%_}
-use mathlib.Core.Bool.{Bool, true, false}
+use mathlib.Core.Bool.{true, false}
 use lib.Dec.{eqb}
 use lib.ListN.{set}
 use Rattle.ump.specs.Choice.{if_then_else_}
 use Rattle.ump.specs.Word.{opcodeOf, channelOf, firstOf, secondOf}
 use Rattle.parameters.specs.declared.ParameterState.{ParameterState}
 use Rattle.parameters.specs.State as parameter
-use Rattle.mpe_layout.specs.declared.MpeRole.{MpeRole}
-use Rattle.mpe_layout.specs.declared.MpeRole.the-variants as role
 use Rattle.mpe_receiver.specs.declared.MpeReceiver.{MpeReceiver}
 use Rattle.mpe_zones.specs.declared.MpeEvent.{MpeEvent}
-use Rattle.mpe_zones.specs.declared.MpeEvent.the-variants.{NoZone, Zone, Ignored}
+use Rattle.mpe_zones.specs.declared.MpeEvent.the-variants.{Ignored}
 use Rattle.mpe_zones.specs.declared.Told.{Told}
 use Rattle.mpe_zones.specs.declared.Zones.{Zones}
-use Rattle.mpe_zones.specs.Zones.{monoOf, roleHeld}
-use Rattle.mpe_zones.specs.Told.{inMode4, eventOf, saidBy, toldAs}
+use Rattle.mpe_zones.specs.Zones.{roleHeld}
+use Rattle.mpe_zones.specs.Told.{eventOf, voiceOf, saidBy, toldAs}
 use Rattle.mpe_receiver.specs.State.{withBends, withPressures, withBrightnesses, zonesOf}
 use Rattle.mpe_receiver.specs.Receive.{settlesBy, settled}
 use Rattle.byte_reader.specs.declared.Reader.{Reader}
@@ -82,17 +80,9 @@ placedOf r w =
       event = placedEvent (zonesOf r) w;
     }
 
--- the event, by its channel's role, of a brightness or of a message that is no control change
-abbrev pub voiceEvent : Zones → MpeRole → ℕ → MpeEvent
-voiceEvent z role.NoZone opcode = NoZone
-voiceEvent z (role.Manager zone) opcode = Zone zone true
-voiceEvent z (role.Member zone) opcode =
-    if eqb opcode 0xA then Ignored else
-    if eqb opcode 0xC then inMode4 zone (monoOf z zone) else
-    Zone zone false
-
+-- the reply to a brightness, or to a message that is no control change
 abbrev pub voiceReply : MpeReceiver → ℕ → Reply
-voiceReply r w = Message w (voiceEvent (zonesOf r) (roleHeld (r .layout) (channelOf w)) (opcodeOf w))
+voiceReply r w = Message w (voiceOf (zonesOf r) (roleHeld (r .layout) (channelOf w)) (opcodeOf w))
 
 -- a control change: the zones after it and its event, with the event that the channel's parameters give
 abbrev pub toldOf : ParameterState → Placed → ℕ → Told

@@ -1,7 +1,7 @@
 // The byte call on a lent end: the end is taken apart and altered where it stands.
 ghost use mathlib.Core.Path.{_≡_};
 ghost use Rattle.receiving_end.specs.End.{stepReply, stepEnd};
-ghost use Rattle.lent_end.specs.Lent.{readerOnly, bendIn, wordTaken, readTaken, takenOf, placedOf, voiceEvent, voiceReply, controlledOf, voicedEnd, brightEnd, settledEnd, receiverEnd, parameterEnd, controlledAt, controlledEnd, controlReply, controlEnd, toldReply, toldEnd};
+ghost use Rattle.lent_end.specs.Lent.{readerOnly, bendIn, wordTaken, readTaken, takenOf, placedOf, voiceReply, controlledOf, voicedEnd, brightEnd, settledEnd, receiverEnd, parameterEnd, controlledAt, controlledEnd, controlReply, controlEnd, toldReply, toldEnd};
 use byte_reader::Read;
 use byte_reader::ReadStep;
 use byte_reader::Reader;
@@ -122,44 +122,13 @@ fn place(receiver: MpeReceiver, word: u32) -> Placed
     Placed { zones, role, event }
 }
 
-// The event, by its channel's role, of a brightness or of a message that is no control change.
-fn voice_event(zones: Zones, role: MpeRole, opcode: u8) -> MpeEvent
-    ensures { λ r. ⌜ r ≡ voiceEvent zones role opcode ⌝ }
-{
-    match role {
-        MpeRole::NoZone => MpeEvent::NoZone,
-        MpeRole::Manager(zone) => MpeEvent::Zone {
-            zone,
-            manager: true,
-        },
-        MpeRole::Member(zone) => {
-            if opcode == 0xA {
-                return MpeEvent::Ignored;
-            }
-            if opcode == 0xC {
-                if zones.is_mono(zone) {
-                    return MpeEvent::Zone {
-                        zone,
-                        manager: false,
-                    };
-                }
-                return MpeEvent::Ignored;
-            }
-            MpeEvent::Zone {
-                zone,
-                manager: false,
-            }
-        }
-    }
-}
-
 // The reply to a brightness or to a message that is no control change.
 fn voice_reply(receiver: MpeReceiver, word: u32) -> Reply
     ensures { λ r. ⌜ r ≡ voiceReply receiver word ⌝ }
 {
     let zones = receiver.zones();
     let role = zones.role(channel(word));
-    let event = voice_event(zones, role, opcode(word));
+    let event = zones.voice_event(role, opcode(word));
     Reply::Message(word, event)
 }
 

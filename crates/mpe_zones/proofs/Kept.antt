@@ -25,7 +25,7 @@ use Rattle.mpe_zones.specs.declared.Said.the-variants.{Nothing, Configur
 use Rattle.mpe_zones.specs.declared.Told.{Told}
 use Rattle.mpe_zones.specs.declared.Zones.{Zones}
 use Rattle.mpe_zones.specs.Zones.{withSensitivities, withMono, monoOf, slotOf, sensitivityOf, roleHeld}
-use Rattle.mpe_zones.specs.Told.{told, announced, configuredBy, configuredAs, announcing, sensitivityApplied, sensed, sensedEvent, inMode4, modeMessage, onMember, eventOf, modeSet, saidBy, toldAs, messageTold, resetIn, changesBy}
+use Rattle.mpe_zones.specs.Told.{told, announced, configuredBy, configuredAs, announcing, sensitivityApplied, sensed, inMode4, modeMessage, onMember, eventOf, modeSet, saidBy, toldAs, messageTold, resetIn, changesBy}
 use Rattle.mpe_zones.specs.WellFormed.{WellFormed}
 use Rattle.mpe_zones.specs.Claims.{monoAfter}
 use Rattle.mpe_zones.proofs.Slots.{slot-fits, slot-even, put-same, put-other}
@@ -88,10 +88,10 @@ module _ (z : Zones) (zone : MpeZone) (mono lowest : Bool) where
   pub on-member-mode : (opcode a : ℕ) → modeSet z (onMember zone mono lowest opcode a) a ≡ withMono z zone (monoAfter (monoOf z zone) lowest opcode a)
   unfolding onMember monoAfter
   on-member-mode opcode a =
-      by-test (eqb opcode 0xA) (λ e. rw (eqb-true opcode 0xA e) (sym (mono-same z zone)))
+      by-test (eqb opcode 0xB) (λ g. rw (eqb-true opcode 0xB g) (controlled a))
+      (λ g. by-test (eqb opcode 0xA) (λ e. rw (eqb-true opcode 0xA e) (sym (mono-same z zone)))
       (λ e. by-test (eqb opcode 0xC) (λ f. rw (eqb-true opcode 0xC f) (by-mode a))
-      (λ f. by-test (eqb opcode 0xB) (λ g. rw (eqb-true opcode 0xB g) (controlled a))
-      (λ g. rw (e, f, g) (sym (mono-same z zone)))))
+      (λ f. rw (e, f, g) (sym (mono-same z zone)))))
 
 -- the events that tell of no change of the zones reset no channel
 pub none-reset : (e : MpeEvent) → changesBy e ≡ false → resetIn e ≡ 0
@@ -165,14 +165,12 @@ module _ (zone : MpeZone) (mono lowest : Bool) (o a : ℕ) (n : NoMode o a) wher
   member-still : Still (onMember zone mono lowest o a)
   unfolding onMember
   member-still =
-      of-both Still (eqb o 0xA) refl
-      (of-both Still (eqb o 0xC) still-mode
-      (by-test (eqb o 0xB)
+      by-test (eqb o 0xB)
       (λ g.
       let m = n (eqb-true o 0xB g) in
       rw (g, ne-eqb a 126 (m .0), ne-eqb a 127 (m .1))
       (of-both Still (eqb a 0) still-mode (of-both Still (eqb a 32) still-mode refl)))
-      (λ g. rw g)))
+      (λ g. rw g (of-both Still (eqb o 0xA) refl (of-both Still (eqb o 0xC) still-mode refl)))
 
 pub event-still : (z : Zones) (channel : ℕ) (ro : MpeRole) (o a : ℕ) → NoMode o a → changesBy (eventOf z channel ro o a) ≡ false
 event-still z channel role.NoZone o a n = refl

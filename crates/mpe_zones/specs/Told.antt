@@ -107,18 +107,21 @@ inMode4 zone mono = if mono then Zone zone false else Ignored
 abbrev pub modeMessage : MpeZone → Bool → MpeEvent
 modeMessage zone lowest = if lowest then Mode zone else Zone zone false
 
--- a message on a member, by the zone's mode and whether the member is the lowest; poly pressure is prohibited (M1-100 2.2.7)
+-- a message on a member that is no control change; poly pressure is prohibited (M1-100 2.2.7)
+abbrev pub voiceOnMember : MpeZone → Bool → ℕ → MpeEvent
+voiceOnMember zone mono opcode =
+    if eqb opcode 0xA then Ignored else if eqb opcode 0xC then inMode4 zone mono else Zone zone false
+
+-- a message on a member, by the zone's mode and whether the member is the lowest
 unfoldable pub onMember : MpeZone → Bool → Bool → ℕ → ℕ → MpeEvent
 onMember zone mono lowest opcode a =
-    if eqb opcode 0xA then Ignored else
-    if eqb opcode 0xC then inMode4 zone mono else
     if eqb opcode 0xB then
     (if eqb a 0 then inMode4 zone mono else
     if eqb a 32 then inMode4 zone mono else
     if eqb a 126 then modeMessage zone lowest else
     if eqb a 127 then modeMessage zone lowest else
     Zone zone false)
-    else Zone zone false
+    else voiceOnMember zone mono opcode
 
 -- the channel is that of the zone's lowest member
 abbrev pub isLowestIn : Zones → MpeZone → ℕ → Bool
@@ -129,6 +132,12 @@ abbrev pub eventOf : Zones → ℕ → MpeRole → ℕ → ℕ → MpeEvent
 eventOf z channel role.NoZone opcode a = NoZone
 eventOf z channel (role.Manager zone) opcode a = Zone zone true
 eventOf z channel (role.Member zone) opcode a = onMember zone (monoOf z zone) (isLowestIn z zone channel) opcode a
+
+-- the same of a message that is no control change
+abbrev pub voiceOf : Zones → MpeRole → ℕ → MpeEvent
+voiceOf z role.NoZone opcode = NoZone
+voiceOf z (role.Manager zone) opcode = Zone zone true
+voiceOf z (role.Member zone) opcode = voiceOnMember zone (monoOf z zone) opcode
 
 -- only an event of mode alters the modes: 126 is mono, 127 poly
 abbrev pub modeSet : Zones → MpeEvent → ℕ → Zones

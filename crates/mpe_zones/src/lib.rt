@@ -4,7 +4,7 @@ ghost use Prim.Native.Nat.{_<_, _*_, _+_};
 ghost use Rattle.mpe_layout.specs.Layout.{layoutMade, roleFound, lowestFound};
 ghost use Rattle.mpe_layout.specs.Reset.{maskFound};
 ghost use Rattle.mpe_zones.specs.Zones.{withMono, monoOf, slotOf, sensitivityAt, sensitivityPut, sensitivityOf, activated, activatedIf, roleIn, roleHeld, layoutIn, maskIn, isLowest, laidOut};
-ghost use Rattle.mpe_zones.specs.Told.{saidByRpn, saidByParameter, saidByEvent, saidBy, told, announced, configuredBy, configured, announcing, sensitivityApplied, sensedAs, sensed, sensedEvent, inMode4, modeMessage, isLowestIn, onMember, eventOf, modeSet, toldAs, messageTold, resetIn, changesBy};
+ghost use Rattle.mpe_zones.specs.Told.{saidByRpn, saidByParameter, saidByEvent, saidBy, told, announced, configuredBy, configured, announcing, sensitivityApplied, sensedAs, sensed, sensedEvent, inMode4, modeMessage, voiceOnMember, isLowestIn, onMember, eventOf, voiceOf, modeSet, toldAs, messageTold, resetIn, changesBy};
 use mpe_layout::FoundRole;
 use mpe_layout::LowestMember;
 use mpe_layout::MadeLayout;
@@ -225,6 +225,22 @@ fn event_in_mode_4(zone: MpeZone, mono: bool) -> MpeEvent
         };
     }
     MpeEvent::Ignored
+}
+
+// A message on a member that is no control change, by the zone's mode.
+fn voice_on_member(zone: MpeZone, mono: bool, opcode: u8) -> MpeEvent
+    ensures { λ r. ⌜ r ≡ voiceOnMember zone mono opcode ⌝ }
+{
+    if opcode == 0xA {
+        return MpeEvent::Ignored;
+    }
+    if opcode == 0xC {
+        return event_in_mode_4(zone, mono);
+    }
+    MpeEvent::Zone {
+        zone,
+        manager: false,
+    }
 }
 
 // Controllers 126 and 127 set the mode on the lowest member.
@@ -457,17 +473,8 @@ impl Zones {
     fn event_on_member(self, zone: MpeZone, opcode: u8, channel: u8, first: u8) -> MpeEvent
         ensures { λ r. ⌜ r ≡ onMember zone (monoOf self zone) (isLowestIn self zone channel) opcode first ⌝ }
     {
-        if opcode == 0xA {
-            return MpeEvent::Ignored;
-        }
-        if opcode == 0xC {
-            return event_in_mode_4(zone, self.is_mono(zone));
-        }
         if opcode != 0xB {
-            return MpeEvent::Zone {
-                zone,
-                manager: false,
-            };
+            return voice_on_member(zone, self.is_mono(zone), opcode);
         }
         if first == 0 {
             return event_in_mode_4(zone, self.is_mono(zone));
@@ -498,6 +505,20 @@ impl Zones {
                 manager: true,
             },
             MpeRole::Member(zone) => self.event_on_member(zone, opcode, channel, first),
+        }
+    }
+
+    // A message that is no control change, by its channel's role.
+    pub fn voice_event(self, role: MpeRole, opcode: u8) -> MpeEvent
+        ensures { λ r. ⌜ r ≡ voiceOf self role opcode ⌝ }
+    {
+        match role {
+            MpeRole::NoZone => MpeEvent::NoZone,
+            MpeRole::Manager(zone) => MpeEvent::Zone {
+                zone,
+                manager: true,
+            },
+            MpeRole::Member(zone) => voice_on_member(zone, self.is_mono(zone), opcode),
         }
     }
 

@@ -18,7 +18,6 @@ use Rattle.parameters.specs.declared.ParameterState.{ParameterState}
 use Rattle.parameters.specs.State.{number, withRpn, numberStored, controlled, hearing}
 use Rattle.parameters.specs.State as parameter
 use Rattle.mpe_layout.specs.declared.MpeZone.{MpeZone}
-use Rattle.mpe_layout.specs.declared.MpeZone.the-variants.{Lower, Upper}
 use Rattle.mpe_layout.specs.declared.MpeLayout.{MpeLayout}
 use Rattle.mpe_layout.specs.Layout.{legal, ofLegal, membersOf, managerOf, lowestOf, lowestOrNone, roleOf}
 use Rattle.mpe_layout.proofs.Legal.{members-le}

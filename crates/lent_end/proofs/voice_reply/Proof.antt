@@ -11,7 +11,8 @@ use Rattle.mpe_zones.specs.declared.Zones.{Zones}
 use Rattle.mpe_zones.specs.Zones.{roleHeld}
 use Rattle.mpe_receiver.specs.State.{zonesOf}
 use Rattle.receiving_end.specs.declared.end.Reply.the-variants.{Message}
-use Rattle.lent_end.specs.Lent.{voiceEvent, voiceReply}
+use Rattle.mpe_zones.specs.Told.{voiceOf}
+use Rattle.lent_end.specs.Lent.{voiceReply}
 use Rattle.lent_end.proofs.voice_reply.Statement.{statement}
 use Rattle.lent_end.proofs.voice_reply.Tie as tie
 
@@ -36,7 +37,7 @@ made : (r : MpeReceiver) (w : ℕ) {z : Zones} {ro : MpeRole} {event : MpeEvent}
     → j ≡ channelOf w
     → ro ≡ roleHeld (z .layout) j
     → o ≡ opcodeOf w
-    → event ≡ voiceEvent z ro o
+    → event ≡ voiceOf z ro o
     → Message w event ≡ voiceReply r w
 made r w pz pj pr po pe = cc
 

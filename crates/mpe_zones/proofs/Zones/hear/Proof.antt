@@ -1,7 +1,7 @@
 -- `mpe_zones::Zones::hear` meets its contract: the role, the event by that role, and what the zones are told.
 -- Assumes nothing.
 use borrow.Author.Needs.{needs}
-use mathlib.Core.Path.{_≡_, _∙_}
+use mathlib.Core.Path.{_∙_}
 use Rattle.mpe_zones.specs.Told.{eventOf, saidBy, toldAs}
 use Rattle.mpe_zones.proofs.Zones.hear.Statement.{statement}
 use Rattle.mpe_zones.proofs.Zones.hear.Tie as tie
