@@ -12,7 +12,7 @@ use lib.ListN.{set}
 use lib.Seq.{set-getD}
 use borrow.Author.Tests.{eqb-true, eqb-false}
 use Rattle.ump.specs.Choice.{if_then_else_}
-use Rattle.ump.specs.Word.{opcodeOf, channelOf, firstOf, secondOf, wordForm}
+use Rattle.ump.specs.Word.{opcodeOf, channelOf, firstOf, secondOf, wordForm, bendOf}
 use Rattle.ump.proofs.Cases.{by-test, of-both}
 use Rattle.parameters.specs.declared.Heard.{Heard}
 use Rattle.parameters.specs.declared.ParameterState.{ParameterState}
@@ -43,7 +43,7 @@ use Rattle.lent_end.specs.declared.Taken.{Taken}
 use Rattle.lent_end.specs.declared.Placed.{Placed}
 use Rattle.lent_end.specs.declared.Controlled.{Controlled}
 use Rattle.receiving_end.specs.End.{blank, withReader, withReceiver, withParameter, parameterAt, stepped, messageAt, messageStep, answerStep, stepOf, stepReply, stepEnd}
-use Rattle.lent_end.specs.Lent.{readerOnly, bendIn, wordTaken, readTaken, takenOf, placedOf, voiceReply, toldOf, controlledOf, voicedEnd, brightEnd, controlledAt, controlledEnd, toldEnd, toldReply}
+use Rattle.lent_end.specs.Lent.{readerOnly, wordTaken, readTaken, takenOf, placedOf, voiceReply, toldOf, controlledOf, voicedEnd, brightEnd, controlledAt, controlledEnd, toldEnd, toldReply}
 use Rattle.lent_end.proofs.Words.{Formed, Fine, read-fine}
 
 -- what a taken byte makes of an end that has the reader after it
@@ -253,7 +253,7 @@ module _ (e : End) (n : Reader) (w : ℕ) (formed : wordForm w ≡ true) where
     -- a bend or a pressure in place, by the channel's index
     abbrev voiceIn : ℕ → End
     voiceIn j =
-        if eqb (opcodeOf w) 0xE then withReceiver e (withBends r (set (r .«pitch_bend») j (bendIn w))) else
+        if eqb (opcodeOf w) 0xE then withReceiver e (withBends r (set (r .«pitch_bend») j (bendOf w))) else
         if eqb (opcodeOf w) 0xD then withReceiver e (withPressures r (set (r .pressure) j (firstOf w))) else e
 
     voice-put : voiceIn k ≡ withReceiver e (put w r)

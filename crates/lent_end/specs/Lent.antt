@@ -4,7 +4,7 @@ use mathlib.Core.Bool.{true, false}
 use lib.Dec.{eqb}
 use lib.ListN.{set}
 use Rattle.ump.specs.Choice.{if_then_else_}
-use Rattle.ump.specs.Word.{opcodeOf, channelOf, firstOf, secondOf}
+use Rattle.ump.specs.Word.{opcodeOf, channelOf, firstOf, secondOf, bendOf}
 use Rattle.parameters.specs.declared.ParameterState.{ParameterState}
 use Rattle.parameters.specs.State as parameter
 use Rattle.mpe_receiver.specs.declared.MpeReceiver.{MpeReceiver}
@@ -101,15 +101,11 @@ controlledOf p at w =
       reply = Message w (toldOf p at w .event);
     }
 
--- a bend from its two data bytes
-abbrev pub bendIn : ℕ → ℕ
-bendIn w = secondOf w * 128 + firstOf w
-
 -- the end after each lent call; a channel is taken modulo 16
 abbrev pub voicedEnd : End → Taken → End
 voicedEnd e t =
     if t .bends then
-    withReceiver e (withBends (e .receiver) (set (e .receiver .«pitch_bend») (t .channel % 16) (bendIn (t .word))))
+    withReceiver e (withBends (e .receiver) (set (e .receiver .«pitch_bend») (t .channel % 16) (bendOf (t .word))))
     else
     if t .presses then
     withReceiver e (withPressures (e .receiver) (set (e .receiver .pressure) (t .channel % 16) (firstOf (t .word))))

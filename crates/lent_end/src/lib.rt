@@ -1,7 +1,7 @@
 // The byte call on a lent end: the end is taken apart and altered where it stands.
 ghost use mathlib.Core.Path.{_≡_};
 ghost use Rattle.receiving_end.specs.End.{stepReply, stepEnd};
-ghost use Rattle.lent_end.specs.Lent.{readerOnly, bendIn, wordTaken, readTaken, takenOf, placedOf, voiceReply, controlledOf, voicedEnd, brightEnd, settledEnd, receiverEnd, parameterEnd, controlledAt, controlledEnd, controlReply, controlEnd, toldReply, toldEnd};
+ghost use Rattle.lent_end.specs.Lent.{readerOnly, wordTaken, readTaken, takenOf, placedOf, voiceReply, controlledOf, voicedEnd, brightEnd, settledEnd, receiverEnd, parameterEnd, controlledAt, controlledEnd, controlReply, controlEnd, toldReply, toldEnd};
 use byte_reader::Read;
 use byte_reader::ReadStep;
 use byte_reader::Reader;
@@ -14,6 +14,7 @@ use parameters::ParameterState;
 use receiving_end::end::End;
 use receiving_end::end::Reply;
 use receiving_end::end::Stepped;
+use ump::channel_voice1::Midi1PitchBend;
 use ump::channel_voice1::channel;
 use ump::channel_voice1::first_data;
 use ump::channel_voice1::opcode;
@@ -161,20 +162,13 @@ fn control(state: ParameterState, placed: Placed, word: u32) -> Controlled
     }
 }
 
-// A bend from its two data bytes.
-fn bend_in(word: u32) -> u16
-    ensures { λ r. ⌜ r ≡ bendIn word ⌝ }
-{
-    second_data(word) as u16 * 128 + first_data(word) as u16
-}
-
 // A bend or a pressure is stored where it stands.
 fn store_voice(end: &mut End, t: Taken, reply: Reply) -> Reply
     ensures { λ r. ⌜ (r ≡ reply) × (now (end .exit) ≡ voicedEnd (now (end .entry)) t) ⌝ }
 {
     let k = t.channel % 16;
     if t.bends {
-        end.receiver.pitch_bend[k] = bend_in(t.word);
+        end.receiver.pitch_bend[k] = Midi1PitchBend::value(t.word);
         return reply;
     } else if t.presses {
         end.receiver.pressure[k] = first_data(t.word);

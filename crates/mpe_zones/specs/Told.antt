@@ -107,12 +107,12 @@ inMode4 zone mono = if mono then Zone zone false else Ignored
 abbrev pub modeMessage : MpeZone → Bool → MpeEvent
 modeMessage zone lowest = if lowest then Mode zone else Zone zone false
 
--- a message on a member that is no control change; poly pressure is prohibited (M1-100 2.2.7)
+-- a message on a member that is no control change: poly pressure is prohibited (M1-100 2.2.7), program change is for mode 4 (2.3.3)
 abbrev pub voiceOnMember : MpeZone → Bool → ℕ → MpeEvent
 voiceOnMember zone mono opcode =
     if eqb opcode 0xA then Ignored else if eqb opcode 0xC then inMode4 zone mono else Zone zone false
 
--- a message on a member, by the zone's mode and whether the member is the lowest
+-- a message on a member, by the zone's mode and whether the member is the lowest (document 01, "The receiver", 4 to 6)
 unfoldable pub onMember : MpeZone → Bool → Bool → ℕ → ℕ → MpeEvent
 onMember zone mono lowest opcode a =
     if eqb opcode 0xB then
@@ -123,7 +123,7 @@ onMember zone mono lowest opcode a =
     Zone zone false)
     else voiceOnMember zone mono opcode
 
--- the channel is that of the zone's lowest member
+-- the channel is that of the zone's lowest member, which takes the mode messages (M1-100 2.2.4.3)
 abbrev pub isLowestIn : Zones → MpeZone → ℕ → Bool
 isLowestIn z zone channel = isLowest (ofLegal (z .layout) (lowestOrNone zone (membersOf (z .layout) zone))) channel
 

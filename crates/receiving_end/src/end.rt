@@ -70,6 +70,7 @@ fn mpe_in(reply: mpe_receiver::Reply) -> MpeEvent
     }
 }
 
+// An end after a byte, and the byte's reply.
 fn replying(end: End, reply: Reply) -> Stepped
     ensures { λ r. ⌜ r ≡ stepped end reply ⌝ }
 {
