@@ -1,5 +1,5 @@
 -- A lent end taken apart: what the by-value functions that the lent byte call makes answer. Private functions cite these; the byte call itself is held to End.antt.
-use Prim.Native.Nat.{ℕ, _+_, _*_, _%_}
+use Prim.Native.Nat.{ℕ, _%_}
 use mathlib.Core.Bool.{true, false}
 use lib.Dec.{eqb}
 use lib.ListN.{set}
