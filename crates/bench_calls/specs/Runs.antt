@@ -10,8 +10,8 @@ use Rattle.ump.specs.Packet.{packetValue}
 use Rattle.mpe_layout.specs.declared.MpeLayout.{MpeLayout}
 use Rattle.mpe_layout.specs.declared.MpeZone.the-variants.{Lower}
 use Rattle.mpe_receiver.specs.Read.{offsetOf}
-use Rattle.mpe_allocator.specs.declared.NotedOn.{NotedOn}
-use Rattle.mpe_allocator.specs.Allocator.{emptied, noteOnFound, notedOn, withoutNote}
+use Rattle.mpe_allocator.specs.declared.Allocation.{Allocation}
+use Rattle.mpe_allocator.specs.Allocator.{emptied, noteReplyRead, allocationOf, withoutNote}
 use Rattle.receiving_end.specs.declared.end.End.{End}
 use Rattle.bench_calls.specs.declared.Noted.{Noted}
 
@@ -37,15 +37,15 @@ offsetsSum e sum (c ∷ cs) = offsetsSum e (added sum (magnitudeIn (offsetOf (e 
 abbrev pub fifteen : MpeLayout
 fifteen = record { lower = 15; upper = 0 }
 
-abbrev pub begun : Noted → NotedOn → Noted
-begun n on = record { allocator = on .allocator; sum = added (n .sum) (channelIn (noteOnFound (on .reply))) }
+abbrev pub begun : Noted → Allocation → Noted
+begun n on = record { allocator = on .allocator; sum = added (n .sum) (channelIn (noteReplyRead (on .reply))) }
 
 abbrev pub ended : Noted → ℕ → Noted
 ended n c = record { allocator = withoutNote (n .allocator) (packetValue c); sum = n .sum }
 
 -- a byte below 80 starts a note, any other ends one
 unfoldable pub noted : Noted → ℕ → Noted
-noted n b = if ltb b 0x80 then begun n (notedOn (n .allocator) fifteen Lower b) else ended n b
+noted n b = if ltb b 0x80 then begun n (allocationOf (n .allocator) fifteen Lower b) else ended n b
 
 unfoldable pub notedAll : Noted → List ℕ → Noted
 notedAll n [] = n

@@ -1,18 +1,18 @@
 // Runs of other calls by value, each in one function that a C or Rust caller links (docs/BENCHMARKS.md).
 ghost use mathlib.Core.Path.{_≡_};
 ghost use Rattle.receiving_end.specs.End.{newEnd};
-ghost use Rattle.receiving_end.specs.Lists.{heard};
+ghost use Rattle.receiving_end.specs.Lists.{afterBytes};
 ghost use Rattle.mpe_receiver.specs.Read.{offsetRead};
-ghost use Rattle.mpe_allocator.specs.Allocator.{noteOnFound};
+ghost use Rattle.mpe_allocator.specs.Allocator.{noteReplyRead};
 ghost use Rattle.bench_calls.specs.Runs.{magnitudeIn, channelIn, offsetsSum, noted, notesSum};
 use mpe_allocator::MpeNoteAllocator;
-use mpe_allocator::NoteOn;
+use mpe_allocator::NoteReply;
 use mpe_layout::MpeLayout;
 use mpe_layout::MpeZone;
 use mpe_pitch::unsigned_abs;
 use mpe_receiver::Offset;
 use receiving_end::end::End;
-use receiving_end::end::hear;
+use receiving_end::end::step_all;
 
 // An allocator, and the sum of the channels that it gave.
 struct Noted {
@@ -33,9 +33,9 @@ fn magnitude(offset: Offset) -> u32
 // A new end hears the bytes, and then tells the offset of each of the channels: the sum of their magnitudes.
 #[no_mangle]
 pub extern "C" fn gurfemau_offsets(bytes: &[u8], channels: &[u8]) -> u64
-    ensures { λ r. ⌜ r ≡ offsetsSum (heard newEnd (now (bytes .entry))) 0 (now (channels .entry)) ⌝ }
+    ensures { λ r. ⌜ r ≡ offsetsSum (afterBytes newEnd (now (bytes .entry))) 0 (now (channels .entry)) ⌝ }
 {
-    let end = hear(End::new(), bytes);
+    let end = step_all(End::new(), bytes);
     let mut sum: u64 = 0;
     let mut i: usize = 0;
     while i < channels.len() {
@@ -46,13 +46,13 @@ pub extern "C" fn gurfemau_offsets(bytes: &[u8], channels: &[u8]) -> u64
     sum
 }
 
-fn channel_in(reply: NoteOn) -> u8
-    ensures { λ r. ⌜ r ≡ channelIn (noteOnFound reply) ⌝ }
+fn channel_in(reply: NoteReply) -> u8
+    ensures { λ r. ⌜ r ≡ channelIn (noteReplyRead reply) ⌝ }
 {
     match reply {
-        NoteOn::Channel(c) => c,
-        NoteOn::OutOfRange => 0,
-        NoteOn::NoMembers => 0,
+        NoteReply::Channel(c) => c,
+        NoteReply::OutOfRange => 0,
+        NoteReply::NoMembers => 0,
     }
 }
 

@@ -5,10 +5,10 @@ use Rattle.receiving_end.specs.declared.end.End.{End}
 use Rattle.receiving_end.specs.End.{stepReply, stepEnd}
 use Rattle.bench_lent.specs.Code.{replyCode}
 
-abbrev pub added : ℕ → ℕ → ℕ
-added sum n = (sum + n) % 2 ^ 64
+abbrev pub addedReply : ℕ → ℕ → ℕ
+addedReply sum n = (sum + n) % 2 ^ 64
 
--- the end hears the bytes, and their replies are added
+-- the end hears the bytes, and their replies are addedReply
 unfoldable pub repliesSum : End → ℕ → List ℕ → ℕ
 repliesSum e sum [] = sum
-repliesSum e sum (b ∷ bs) = repliesSum (stepEnd e b) (added sum (replyCode (stepReply e b))) bs
+repliesSum e sum (b ∷ bs) = repliesSum (stepEnd e b) (addedReply sum (replyCode (stepReply e b))) bs

@@ -1,7 +1,7 @@
 -- From a new reader on, its state is sound, and every word that it makes has the form of a message and group 0.
 -- Assumes nothing.
 use Prim.Native.Nat.{ℕ, _/_, _%_, _<_, _≤_}
-use mathlib.Core.Path.{_≡_, refl, sym, subst}
+use mathlib.Core.Path.{_≡_, refl, subst}
 use mathlib.Core.Bool.{Bool, true, false}
 use mathlib.Core.List.{List, [], _∷_}
 use mathlib.Core.Logic.{_⊎_, inl, inr, ⊎-elim}
@@ -16,7 +16,7 @@ use Rattle.byte_reader.specs.declared.Reader.{Reader}
 use Rattle.byte_reader.specs.declared.Read.{Read}
 use Rattle.byte_reader.specs.declared.Read.the-variants.{Quiet, Dropped, RealTime, Message}
 use Rattle.byte_reader.specs.declared.ReadStep.{ReadStep}
-use Rattle.byte_reader.specs.Reader.{readerAt, newReader, reading, classOf, messageWord, secondData, dataStep, readStep, readAll, Sound, WordsFormed}
+use Rattle.byte_reader.specs.Reader.{readerAt, newReader, reading, classOfByte, messageWord, secondData, dataStep, readStep, readAll, Sound, WordsFormed}
 
 -- what holds of a step: the reader is sound, and a word that is made has its form
 record Fine (x : ReadStep) : Type 0 where
@@ -95,7 +95,7 @@ module _ (s f b : ℕ) (sound : Sound (readerAt s f)) (hb : b < 0x80) where
 
 -- a byte of any class
 step-fine : (r : Reader) (b : ℕ) → Sound r → Fine (readStep r b)
-unfolding classOf
+unfolding classOfByte
 step-fine r b s =
     let new = no-word newReader Dropped new-sound dropped-no in
     let kept = no-word r Dropped s dropped-no in

@@ -1,6 +1,6 @@
 -- The byte reader (MIDI 1.0, "Running Status" and Table I; document 01, "A byte arrives").
 use Prim.Native.Nat.{ℕ, _/_, _%_, _<_, _≤_}
-use mathlib.Core.Bool.{Bool, true, false}
+use mathlib.Core.Bool.{true}
 use mathlib.Core.Path.{_≡_}
 use mathlib.Core.List.{List, [], _∷_}
 use mathlib.Core.Logic.{_⊎_}
@@ -26,8 +26,8 @@ abbrev pub reading : Reader → Read → ReadStep
 reading r x = record { reader = r; read = x }
 
 -- the classes of bytes
-unfoldable pub classOf : ℕ → ByteClass
-classOf b =
+unfoldable pub classOfByte : ℕ → ByteClass
+classOfByte b =
     if ltb b 0x80 then class.Data else
     if ltb b 0xF0 then class.Status else
     if ltb b 0xF4 then class.Common else
@@ -65,7 +65,7 @@ classStep r class.Undefined b = reading r Dropped
 classStep r class.RealTime b = reading r (RealTime b)
 
 abbrev pub readStep : Reader → ℕ → ReadStep
-readStep r b = classStep r (classOf b) b
+readStep r b = classStep r (classOfByte b) b
 
 -- the reader after bytes
 unfoldable pub readAll : Reader → List ℕ → Reader

@@ -2,7 +2,7 @@
 ghost use mathlib.Core.Path.{_≡_};
 ghost use Prim.Native.Nat.{_/_, _%_};
 ghost use Rattle.ump.specs.Word.{wordOf};
-ghost use Rattle.byte_reader.specs.Reader.{newReader, readerAt, reading as readAs, classOf, secondData, dataStep, classStep, readStep};
+ghost use Rattle.byte_reader.specs.Reader.{newReader, readerAt, reading as readAs, classOfByte, secondData, dataStep, classStep, readStep};
 
 // What kind of byte it is (MIDI 1.0, Table I).
 pub enum ByteClass {
@@ -40,7 +40,7 @@ pub struct ReadStep {
 }
 
 fn class_of(b: u8) -> ByteClass
-    ensures { λ r. ⌜ r ≡ classOf b ⌝ }
+    ensures { λ r. ⌜ r ≡ classOfByte b ⌝ }
 {
     if b < 0x80 {
         return ByteClass::Data;

@@ -14,7 +14,7 @@ use borrow.Author.Tests.{eqb-true, eqb-false}
 use Rattle.ump.specs.Choice.{if_then_else_}
 use Rattle.ump.specs.Word.{opcodeOf, channelOf, firstOf, secondOf, wordForm, bendOf}
 use Rattle.ump.proofs.Cases.{by-test, of-both}
-use Rattle.parameters.specs.declared.Heard.{Heard}
+use Rattle.parameters.specs.declared.ParameterUpdate.{ParameterUpdate}
 use Rattle.parameters.specs.declared.ParameterState.{ParameterState}
 use Rattle.parameters.specs.declared.MaybeEvent.the-variants.{NoEvent}
 use Rattle.parameters.specs.State as parameter
@@ -22,12 +22,12 @@ use Rattle.mpe_layout.specs.declared.MpeRole.{MpeRole}
 use Rattle.mpe_layout.specs.declared.MpeRole.the-variants as role
 use Rattle.mpe_receiver.specs.declared.MpeReceiver.{MpeReceiver}
 use Rattle.mpe_zones.specs.declared.MpeEvent.the-variants.{Ignored}
-use Rattle.mpe_zones.specs.declared.Told.{Told}
+use Rattle.mpe_zones.specs.declared.ZonesUpdate.{ZonesUpdate}
 use Rattle.mpe_zones.specs.declared.Zones.{Zones}
 use Rattle.mpe_zones.specs.Zones.{roleHeld}
-use Rattle.mpe_zones.specs.Told.{saidBy, onMember, eventOf, voiceOf, toldAs, changesBy}
+use Rattle.mpe_zones.specs.Update.{decoded, onMember, plainEvent, voiceOf, updatedAs, changesBy}
 use Rattle.mpe_receiver.specs.State.{withBends, withPressures, withBrightnesses, zonesOf}
-use Rattle.mpe_receiver.specs.Receive.{stored, heardOf, settlesBy, settled}
+use Rattle.mpe_receiver.specs.Receive.{stored, receivedByFields, settlesBy, settled}
 use Rattle.mpe_receiver.specs.Receive as receiver
 use Rattle.mpe_receiver.proofs.Parts.{receiver-quiet}
 use Rattle.mpe_receiver.proofs.Settle.{put, lit, unsettled}
@@ -42,7 +42,7 @@ use Rattle.receiving_end.specs.declared.end.Stepped.{Stepped}
 use Rattle.lent_end.specs.declared.Taken.{Taken}
 use Rattle.lent_end.specs.declared.Placed.{Placed}
 use Rattle.lent_end.specs.declared.Controlled.{Controlled}
-use Rattle.receiving_end.specs.End.{blank, withReader, withReceiver, withParameter, parameterAt, stepped, messageAt, messageStep, answerStep, stepOf, stepReply, stepEnd}
+use Rattle.receiving_end.specs.End.{blankState, withReader, withReceiver, withParameter, parameterAt, stepped, messageAt, messageStep, answerStep, stepOf, stepReply, stepEnd}
 use Rattle.lent_end.specs.Lent.{readerOnly, wordTaken, readTaken, takenOf, placedOf, voiceReply, toldOf, controlledOf, voicedEnd, brightEnd, controlledAt, controlledEnd, toldEnd, toldReply}
 use Rattle.lent_end.proofs.Words.{Formed, Fine, read-fine}
 
@@ -74,15 +74,15 @@ ignored-step : (e : End) (w : ℕ) → wordForm w ≡ false → stepped e (Messa
 unfolding messageAt
 ignored-step e w f =
     rw f
-    (ap (λ l. stepped (withParameters e l) (Message w Ignored)) (sym (set-getD (e .parameters) (channelOf w) blank)))
+    (ap (λ l. stepped (withParameters e l) (Message w Ignored)) (sym (set-getD (e .parameters) (channelOf w) blankState)))
 
 -- one that is reaches the parameters, and then the receiver with their event
-abbrev heardStep : End → ℕ → Heard → Stepped
+abbrev heardStep : End → ℕ → ParameterUpdate → Stepped
 heardStep e w h =
-    let got = receiver.wordHeard (e .receiver) (h .event) w in
+    let got = receiver.receivedByWord (e .receiver) (h .event) w in
     stepped (withReceiver (withParameter e (channelOf w) (h .state)) (got .receiver)) (Message w (got .event))
 
-formed-step : (e : End) (w : ℕ) → wordForm w ≡ true → messageStep e w ≡ heardStep e w (parameter.wordHeard (parameterAt e (channelOf w)) w)
+formed-step : (e : End) (w : ℕ) → wordForm w ≡ true → messageStep e w ≡ heardStep e w (parameter.updateByWord (parameterAt e (channelOf w)) w)
 unfolding messageAt
 formed-step e w f = rw f
 
@@ -92,14 +92,14 @@ receiver-end e true x q = refl
 receiver-end e false x q = ap (withReceiver e) (q refl)
 
 -- the data bytes of a message that is no control change do not decide its event
-voice-event : (z : Zones) (channel : ℕ) (ro : MpeRole) (o a : ℕ) → eqb o 0xB ≡ false → eventOf z channel ro o a ≡ voiceOf z ro o
+voice-event : (z : Zones) (channel : ℕ) (ro : MpeRole) (o a : ℕ) → eqb o 0xB ≡ false → plainEvent z channel ro o a ≡ voiceOf z ro o
 unfolding onMember
 voice-event z channel role.NoZone o a other = refl
 voice-event z channel (role.Manager zone) o a other = refl
 voice-event z channel (role.Member zone) o a other = rw other
 
 -- nor does that of a brightness stand apart
-bright-event : (z : Zones) (channel : ℕ) (ro : MpeRole) (o a : ℕ) → o ≡ 0xB → a ≡ 74 → eventOf z channel ro o a ≡ voiceOf z ro o
+bright-event : (z : Zones) (channel : ℕ) (ro : MpeRole) (o a : ℕ) → o ≡ 0xB → a ≡ 74 → plainEvent z channel ro o a ≡ voiceOf z ro o
 unfolding onMember
 bright-event z channel role.NoZone o a control bright = refl
 bright-event z channel (role.Manager zone) o a control bright = refl
@@ -142,14 +142,14 @@ module _ (e : End) (n : Reader) (w : ℕ) (formed : wordForm w ≡ true) where
 
   -- the channel's parameters written over themselves
   kept : withParameter e k p ≡ e
-  kept = ap (withParameters e) (set-getD (e .parameters) k blank)
+  kept = ap (withParameters e) (set-getD (e .parameters) k blankState)
 
   module _ (control : opcodeOf w ≡ 0xB) where
     -- what the channel's parameters make of it, and what the zones are told
-    abbrev h : Heard
+    abbrev h : ParameterUpdate
     h = parameter.controlled p (firstOf w) (secondOf w)
 
-    abbrev t : Told
+    abbrev t : ZonesUpdate
     t = toldOf p at w
 
     abbrev whole : MpeReceiver
@@ -159,12 +159,12 @@ module _ (e : End) (n : Reader) (w : ℕ) (formed : wordForm w ≡ true) where
     controlAfter = stepped (withReceiver (withParameter e k (h .state)) whole) (Message w (t .event))
 
     control-parts : heardStep e w h ≡ controlAfter
-    unfolding heardOf
+    unfolding receivedByFields
     control-parts = refl
 
     control-heard : messageStep e w ≡ controlAfter
     control-heard =
-        let only : parameter.wordHeard p w ≡ h = rw control in
+        let only : parameter.updateByWord p w ≡ h = rw control in
         formed-step e w formed ∙ (ap (heardStep e w) only ∙ control-parts)
 
     -- where nothing is settled, a brightness may yet be stored
@@ -195,14 +195,14 @@ module _ (e : End) (n : Reader) (w : ℕ) (formed : wordForm w ≡ true) where
 
     module _ (bright : firstOf w ≡ 74) where
       -- the parameters keep what they hold, and say nothing
-      bright-heard : h ≡ parameter.hearing p NoEvent
+      bright-heard : h ≡ parameter.parameterUpdate p NoEvent
       unfolding parameter.controlled parameter.numberStored
       bright-heard = rw bright
 
       bright-told : t .event ≡ voiceOf (zonesOf r) (at .role) (opcodeOf w)
       bright-told =
-          let silent : toldAs (zonesOf r) k (at .role) (at .event) (saidBy (opcodeOf w) NoEvent) (firstOf w) .event ≡ at .event = rw control in
-          ap (λ x. toldAs (zonesOf r) k (at .role) (at .event) (saidBy (opcodeOf w) (x .event)) (firstOf w) .event) bright-heard
+          let silent : updatedAs (zonesOf r) k (at .role) (at .event) (decoded (opcodeOf w) NoEvent) (firstOf w) .event ≡ at .event = rw control in
+          ap (λ x. updatedAs (zonesOf r) k (at .role) (at .event) (decoded (opcodeOf w) (x .event)) (firstOf w) .event) bright-heard
           ∙ silent
           ∙ bright-event (zonesOf r) k (at .role) (opcodeOf w) (firstOf w) control bright
 
@@ -239,13 +239,13 @@ module _ (e : End) (n : Reader) (w : ℕ) (formed : wordForm w ≡ true) where
 
     -- the parameters keep what they hold, and the receiver stores the message and no more
     voice-heard : messageStep e w ≡ voiceAfter
-    unfolding heardOf
+    unfolding receivedByFields
     voice-heard =
-        let only : parameter.wordHeard p w ≡ parameter.hearing p NoEvent = rw other in
+        let only : parameter.updateByWord p w ≡ parameter.parameterUpdate p NoEvent = rw other in
         let m = eqb-false (opcodeOf w) 0xB other in
-        let stores : receiver.wordHeard r NoEvent w .receiver ≡ put w r =
+        let stores : receiver.receivedByWord r NoEvent w .receiver ≡ put w r =
         receiver-quiet r (opcodeOf w) k (firstOf w) (secondOf w) (λ q. absurd (m q)) in
-        let plain : receiver.wordHeard r NoEvent w .event ≡ at .event = rw other in
+        let plain : receiver.receivedByWord r NoEvent w .event ≡ at .event = rw other in
         formed-step e w formed
         ∙ ap (heardStep e w) only
         ∙ ap₂ stepped (ap₂ withReceiver kept stores) (ap (Message w) plain)

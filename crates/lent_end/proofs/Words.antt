@@ -16,7 +16,7 @@ use Rattle.byte_reader.specs.declared.ByteClass.the-variants as class
 use Rattle.byte_reader.specs.declared.Reader.{Reader}
 use Rattle.byte_reader.specs.declared.Read.{Read}
 use Rattle.byte_reader.specs.declared.Read.the-variants.{Quiet, Dropped, RealTime, Message}
-use Rattle.byte_reader.specs.Reader.{classOf, messageWord, secondData, dataStep, classStep, readStep}
+use Rattle.byte_reader.specs.Reader.{classOfByte, messageWord, secondData, dataStep, classStep, readStep}
 
 -- a word of the form of a message, or with opcode F
 abbrev pub Formed : ℕ → Type 0
@@ -106,8 +106,8 @@ class-fine r class.Common b g d = dropped-fine
 class-fine r class.Undefined b g d = dropped-fine
 class-fine r class.RealTime b g d = real-time-fine b
 
-data-below : (b : ℕ) → classOf b ≡ class.Data → b < 0x80
-unfolding classOf
+data-below : (b : ℕ) → classOfByte b ≡ class.Data → b < 0x80
+unfolding classOfByte
 data-below b =
     let Below : ByteClass → Type 0 = λ k. k ≡ class.Data → b < 0x80 in
     let status : Below class.Status = λ e. absurd (let z : _≡_ {A = ℕ} 0 1 = cc in omega arith) in
@@ -126,4 +126,4 @@ data-below b =
 
 -- the word that a byte completes, whatever the reader holds
 pub read-fine : (r : Reader) (b : ℕ) → r .status < 2 ^ 8 → Fine (readStep r b .read)
-read-fine r b g = class-fine r (classOf b) b g (data-below b)
+read-fine r b g = class-fine r (classOfByte b) b g (data-below b)

@@ -10,10 +10,10 @@ use Rattle.parameters.specs.State as parameter
 use Rattle.mpe_receiver.specs.declared.MpeReceiver.{MpeReceiver}
 use Rattle.mpe_zones.specs.declared.MpeEvent.{MpeEvent}
 use Rattle.mpe_zones.specs.declared.MpeEvent.the-variants.{Ignored}
-use Rattle.mpe_zones.specs.declared.Told.{Told}
+use Rattle.mpe_zones.specs.declared.ZonesUpdate.{ZonesUpdate}
 use Rattle.mpe_zones.specs.declared.Zones.{Zones}
 use Rattle.mpe_zones.specs.Zones.{roleHeld}
-use Rattle.mpe_zones.specs.Told.{eventOf, voiceOf, saidBy, toldAs}
+use Rattle.mpe_zones.specs.Update.{plainEvent, voiceOf, decoded, updatedAs}
 use Rattle.mpe_receiver.specs.State.{withBends, withPressures, withBrightnesses, zonesOf}
 use Rattle.mpe_receiver.specs.Receive.{settlesBy, settled}
 use Rattle.byte_reader.specs.declared.Reader.{Reader}
@@ -70,7 +70,7 @@ takenOf r b = readTaken (readStep r b .reader) (readStep r b .read)
 
 -- the event of a message by its channel's role, where no parameter event decides
 abbrev pub placedEvent : Zones → ℕ → MpeEvent
-placedEvent z w = eventOf z (channelOf w) (roleHeld (z .layout) (channelOf w)) (opcodeOf w) (firstOf w)
+placedEvent z w = plainEvent z (channelOf w) (roleHeld (z .layout) (channelOf w)) (opcodeOf w) (firstOf w)
 
 abbrev pub placedOf : MpeReceiver → ℕ → Placed
 placedOf r w =
@@ -85,10 +85,10 @@ abbrev pub voiceReply : MpeReceiver → ℕ → Reply
 voiceReply r w = Message w (voiceOf (zonesOf r) (roleHeld (r .layout) (channelOf w)) (opcodeOf w))
 
 -- a control change: the zones after it and its event, with the event that the channel's parameters give
-abbrev pub toldOf : ParameterState → Placed → ℕ → Told
+abbrev pub toldOf : ParameterState → Placed → ℕ → ZonesUpdate
 toldOf p at w =
-    toldAs (at .zones) (channelOf w) (at .role) (at .event)
-    (saidBy (opcodeOf w) (parameter.controlled p (firstOf w) (secondOf w) .event))
+    updatedAs (at .zones) (channelOf w) (at .role) (at .event)
+    (decoded (opcodeOf w) (parameter.controlled p (firstOf w) (secondOf w) .event))
     (firstOf w)
 
 abbrev pub controlledOf : ParameterState → Placed → ℕ → Controlled

@@ -143,7 +143,7 @@ fn control(state: ParameterState, placed: Placed, word: u32) -> Controlled
     let heard = state.control(first_data(word), second_data(word));
     let next = heard.state;
     let said = heard.event;
-    let t = zones.tell(
+    let t = zones.apply(
         said,
         role,
         plain,

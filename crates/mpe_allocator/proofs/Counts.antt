@@ -16,11 +16,11 @@ use Rattle.mpe_layout.specs.Layout.{legal, membersOf, lowestOf}
 use Rattle.mpe_layout.specs.declared.MpeZone.{MpeZone}
 use Rattle.mpe_layout.specs.declared.MpeLayout.{MpeLayout}
 use Rattle.mpe_allocator.specs.declared.MpeNoteAllocator.{MpeNoteAllocator}
-use Rattle.mpe_allocator.specs.declared.NotedOn.{NotedOn}
-use Rattle.mpe_allocator.specs.declared.NoteOn.the-variants.{OutOfRange, NoMembers}
+use Rattle.mpe_allocator.specs.declared.Allocation.{Allocation}
+use Rattle.mpe_allocator.specs.declared.NoteReply.the-variants.{OutOfRange, NoMembers}
 use Rattle.mpe_allocator.specs.Choice.{heldOn, markOf, choice}
-use Rattle.mpe_allocator.specs.Allocator.{emptied, answered, placedOn, oneMore, withNote, notedOn, oneFewer, withoutNote}
-use Rattle.mpe_allocator.specs.Calls.{Call, note-on, note-off, active-notes, same-note, set-same-note, reset, afterCall, after, sum, full, Tally, blank, got, tallied, tally, CountsSum}
+use Rattle.mpe_allocator.specs.Allocator.{emptied, answered, placedOn, oneMore, withNote, allocationOf, oneFewer, withoutNote}
+use Rattle.mpe_allocator.specs.Calls.{AllocatorCall, note-on, note-off, active-notes, same-note, set-same-note, reset, afterCall, afterCalls, sum, full, Tally, noTally, got, tallied, tally, CountsSum}
 use Rattle.mpe_allocator.proofs.Order.{never}
 use Rattle.mpe_allocator.proofs.Search.{choice-foremost}
 use Rattle.mpe_allocator.proofs.Noted.{members-end}
@@ -49,7 +49,7 @@ pub record Kept (active : List ℕ) (t : Tally) : Type 0 where
   pub sixteen : length active ≡ 16
   pub sums : t .reached ≡ false → sum active + t .offs ≡ t .ons
 
--- a tally after a note that got g channels
+-- a tally afterCalls a note that got g channels
 abbrev noted : Tally → ℕ → List ℕ → Tally
 noted t g active = record { ons = t .ons + g; offs = t .offs; reached = t .reached || full active }
 
@@ -87,7 +87,7 @@ module _ (active : List ℕ) (c v : ℕ) (t : Tally) (b : c < 16) (k : Kept acti
       }
 
 -- what a note gets, by whether the layout is legal and whether the zone is empty
-abbrev by-zone : MpeNoteAllocator → ℕ → ℕ → Bool → Bool → NotedOn
+abbrev by-zone : MpeNoteAllocator → ℕ → ℕ → Bool → Bool → Allocation
 by-zone a mark c x y = if x then (if y then answered a NoMembers else placedOn a mark c) else answered a OutOfRange
 
 note-by : (a : MpeNoteAllocator) (t : Tally) (mark c : ℕ) (x y : Bool) → (x ≡ true → y ≡ false → c < 16) → Kept (a .active) t
@@ -97,8 +97,8 @@ note-by a t mark c true true f k = declined-kept (a .active) t k
 note-by a t mark c true false f k = placed-kept (a .active) c (oneMore (heldOn a c)) t (f refl refl) k refl
 note-by a t mark c false y f k = declined-kept (a .active) t k
 
-note-kept : (a : MpeNoteAllocator) (t : Tally) (l : MpeLayout) (zone : MpeZone) (note : ℕ) → Kept (a .active) t → Kept (notedOn a l zone note .allocator .active) (noted t (got (notedOn a l zone note .reply)) (notedOn a l zone note .allocator .active))
-unfolding notedOn
+note-kept : (a : MpeNoteAllocator) (t : Tally) (l : MpeLayout) (zone : MpeZone) (note : ℕ) → Kept (a .active) t → Kept (allocationOf a l zone note .allocator .active) (noted t (got (allocationOf a l zone note .reply)) (allocationOf a l zone note .allocator .active))
+unfolding allocationOf
 note-kept a t l zone note k =
     note-by a t (markOf note) (choice a (markOf note) (lowestOf l zone) (membersOf l zone - 1)) (legal l) (eqb (membersOf l zone) 0)
     (λ h e.
@@ -113,7 +113,7 @@ off-by a t c false e b k =
     let n : heldOn a c ≡ 0 → ⊥ = eqb-false (heldOn a c) 0 e in
     released-kept (a .active) c (heldOn a c - 1) t b k (omega arith) refl
 
-step : (a : MpeNoteAllocator) (t : Tally) (call : Call) → Kept (a .active) t → Kept (afterCall a call .active) (tallied a t call)
+step : (a : MpeNoteAllocator) (t : Tally) (call : AllocatorCall) → Kept (a .active) t → Kept (afterCall a call .active) (tallied a t call)
 unfolding afterCall tallied withoutNote sum
 step a t (note-on l zone note) k = note-kept a t l zone note k
 step a t (note-off channel) k = off-by a t (packetValue channel) (eqb (heldOn a (packetValue channel)) 0) refl (omega arith) k
@@ -122,14 +122,14 @@ step a t same-note k = k
 step a t (set-same-note on) k = k
 step a t reset k = record { sixteen = refl; sums = λ h. refl }
 
-kept : (a : MpeNoteAllocator) (t : Tally) (calls : List Call) → Kept (a .active) t → Kept (after a calls .active) (tally a t calls)
-unfolding after tally
+kept : (a : MpeNoteAllocator) (t : Tally) (calls : List AllocatorCall) → Kept (a .active) t → Kept (afterCalls a calls .active) (tally a t calls)
+unfolding afterCalls tally
 kept a t [] k = k
 kept a t (call ∷ calls) k = kept (afterCall a call) (tallied a t call) calls (step a t call k)
 
-new-kept : Kept (emptied false .active) blank
+new-kept : Kept (emptied false .active) noTally
 unfolding sum
 new-kept = record { sixteen = refl; sums = λ h. refl }
 
 pub counts-sum : CountsSum
-counts-sum calls h = kept (emptied false) blank calls new-kept .sums h
+counts-sum calls h = kept (emptied false) noTally calls new-kept .sums h

@@ -1,4 +1,4 @@
--- What the answers about a zone tell, and what a note gets by them, which `notedOn` computes.
+-- What the answers about a zone tell, and what a note gets by them, which `allocationOf` computes.
 -- Assumes nothing.
 use mathlib.Core.Path.{_≡_, refl}
 use mathlib.Core.Bool.{Bool, true, false}
@@ -14,10 +14,10 @@ use Rattle.mpe_layout.specs.declared.MpeZone.the-variants.{Lower, Upper}
 use Rattle.mpe_layout.specs.declared.MpeLayout.{MpeLayout}
 use Rattle.mpe_layout.proofs.Legal.{members-le}
 use Rattle.mpe_allocator.specs.declared.MpeNoteAllocator.{MpeNoteAllocator}
-use Rattle.mpe_allocator.specs.declared.NotedOn.{NotedOn}
-use Rattle.mpe_allocator.specs.declared.NoteOn.the-variants.{OutOfRange, NoMembers}
+use Rattle.mpe_allocator.specs.declared.Allocation.{Allocation}
+use Rattle.mpe_allocator.specs.declared.NoteReply.the-variants.{OutOfRange, NoMembers}
 use Rattle.mpe_allocator.specs.Choice.{markOf, Foremost, choice}
-use Rattle.mpe_allocator.specs.Allocator.{noteOnFound, answered, placedOn, Placed, NotedAs, illegal, empty, placed, notedOn}
+use Rattle.mpe_allocator.specs.Allocator.{noteReplyRead, answered, placedOn, Placed, AllocatedAs, illegal, empty, placed, allocationOf}
 use Rattle.mpe_allocator.proofs.Search.{only-one, choice-foremost}
 
 -- ---- what `lowest_member` and `members` answered
@@ -86,26 +86,26 @@ moved a mark first n x y c p q f = rw (← p, ← q) f
 
 module _ (a : MpeNoteAllocator) (l : MpeLayout) (zone : MpeZone) (note : ℕ) where
   -- both ways to say it
-  abbrev pub Both : NotedOn → Type 0
-  Both r = NotedAs a l zone note (noteOnFound (r .reply)) (r .allocator) × (r ≡ notedOn a l zone note)
+  abbrev pub Both : Allocation → Type 0
+  Both r = AllocatedAs a l zone note (noteReplyRead (r .reply)) (r .allocator) × (r ≡ allocationOf a l zone note)
 
   pub in-illegal : legal l ≡ false → Both (answered a OutOfRange)
-  unfolding notedOn
+  unfolding allocationOf
   in-illegal h = (illegal h, rw h)
 
   pub in-empty : legal l ≡ true → membersOf l zone ≡ 0 → Both (answered a NoMembers)
-  unfolding notedOn
+  unfolding allocationOf
   in-empty h e = (empty h e, rw (h, eq-eqb (membersOf l zone) 0 e))
 
   pub in-zone : legal l ≡ true → 0 < membersOf l zone → (c : ℕ) → Foremost a (markOf note) (lowestOf l zone) (lowestOf l zone + membersOf l zone) c → Both (placedOn a (markOf note) c)
-  unfolding notedOn
+  unfolding allocationOf
   in-zone h n c f =
       let e : lowestOf l zone + suc (membersOf l zone - 1) ≡ lowestOf l zone + membersOf l zone = omega arith in
       let g = rw e at (choice-foremost a (markOf note) (lowestOf l zone) (membersOf l zone - 1)) in
       let d : c ≡ choice a (markOf note) (lowestOf l zone) (membersOf l zone - 1) = only-one a (markOf note) (lowestOf l zone) (lowestOf l zone + membersOf l zone) c _ f g in
       (placed h f, rw (h, ne-eqb (membersOf l zone) 0 (λ e. omega arith), ← d))
 
-  pub in-channels : (first n : ℕ) (r : NotedOn) → legal l ≡ true → 0 < membersOf l zone → first ≡ lowestOf l zone → n ≡ membersOf l zone → Placed a (markOf note) first (first + n) r → Both r
+  pub in-channels : (first n : ℕ) (r : Allocation) → legal l ≡ true → 0 < membersOf l zone → first ≡ lowestOf l zone → n ≡ membersOf l zone → Placed a (markOf note) first (first + n) r → Both r
   in-channels first n r h m p q d =
       rw (d .is)
       (in-zone h m (d .channel) (moved a (markOf note) first n (lowestOf l zone) (membersOf l zone) (d .channel) p q (d .foremost)))

@@ -10,9 +10,9 @@ use Rattle.mpe_layout.specs.Layout.{legal, membersOf, lowestOf}
 use Rattle.mpe_layout.specs.declared.MpeZone.{MpeZone}
 use Rattle.mpe_layout.specs.declared.MpeLayout.{MpeLayout}
 use Rattle.mpe_allocator.specs.declared.MpeNoteAllocator.{MpeNoteAllocator}
-use Rattle.mpe_allocator.specs.declared.NotedOn.{NotedOn}
-use Rattle.mpe_allocator.specs.declared.NoteOn.{NoteOn}
-use Rattle.mpe_allocator.specs.declared.NoteOn.the-variants.{Channel, OutOfRange, NoMembers}
+use Rattle.mpe_allocator.specs.declared.Allocation.{Allocation}
+use Rattle.mpe_allocator.specs.declared.NoteReply.{NoteReply}
+use Rattle.mpe_allocator.specs.declared.NoteReply.the-variants.{Channel, OutOfRange, NoMembers}
 use Rattle.mpe_allocator.specs.Choice.{heldOn, markOf, Foremost, Chosen, choice}
 
 -- no held note, no release, with the same-note option on or off
@@ -27,12 +27,12 @@ emptied option =
     }
 
 -- what `note_on` gives or declines
-abbrev pub noteOnFound : NoteOn → Outcome ℕ
-noteOnFound (Channel c) = given c
-noteOnFound OutOfRange = outOfRange
-noteOnFound NoMembers = noneThere
+abbrev pub noteReplyRead : NoteReply → Outcome ℕ
+noteReplyRead (Channel c) = given c
+noteReplyRead OutOfRange = outOfRange
+noteReplyRead NoMembers = noneThere
 
-abbrev pub answered : MpeNoteAllocator → NoteOn → NotedOn
+abbrev pub answered : MpeNoteAllocator → NoteReply → Allocation
 answered a reply = record { allocator = a; reply = reply }
 
 -- one held note more, and no more than 255
@@ -50,24 +50,24 @@ withNote a mark c =
       «same_note» = a .«same_note»;
     }
 
-abbrev pub placedOn : MpeNoteAllocator → ℕ → ℕ → NotedOn
+abbrev pub placedOn : MpeNoteAllocator → ℕ → ℕ → Allocation
 placedOn a mark c = answered (withNote a mark c) (Channel c)
 
 -- a note of this mark on the foremost channel from `first` up to below `end`
-pub record Placed (a : MpeNoteAllocator) (mark first end : ℕ) (r : NotedOn) : Type 0 where
+pub record Placed (a : MpeNoteAllocator) (mark first end : ℕ) (r : Allocation) : Type 0 where
   pub channel : ℕ
   pub foremost : Foremost a mark first end channel
   pub is : r ≡ placedOn a mark channel
 
 -- what a note gets, and the allocator after it: an illegal layout is out of range, then a zone without members is none
-pub data NotedAs (a : MpeNoteAllocator) (l : MpeLayout) (zone : MpeZone) (note : ℕ) : Outcome ℕ → MpeNoteAllocator → Type 0 where
-  illegal : legal l ≡ false → NotedAs a l zone note outOfRange a
-  empty : legal l ≡ true → membersOf l zone ≡ 0 → NotedAs a l zone note noneThere a
-  placed : {c : ℕ} → legal l ≡ true → Chosen a l zone note c → NotedAs a l zone note (given c) (withNote a (markOf note) c)
+pub data AllocatedAs (a : MpeNoteAllocator) (l : MpeLayout) (zone : MpeZone) (note : ℕ) : Outcome ℕ → MpeNoteAllocator → Type 0 where
+  illegal : legal l ≡ false → AllocatedAs a l zone note outOfRange a
+  empty : legal l ≡ true → membersOf l zone ≡ 0 → AllocatedAs a l zone note noneThere a
+  placed : {c : ℕ} → legal l ≡ true → Chosen a l zone note c → AllocatedAs a l zone note (given c) (withNote a (markOf note) c)
 
 -- the same, computed
-unfoldable pub notedOn : MpeNoteAllocator → MpeLayout → MpeZone → ℕ → NotedOn
-notedOn a l zone note =
+unfoldable pub allocationOf : MpeNoteAllocator → MpeLayout → MpeZone → ℕ → Allocation
+allocationOf a l zone note =
     if legal l then
     (if eqb (membersOf l zone) 0 then answered a NoMembers else
     placedOn a (markOf note) (choice a (markOf note) (lowestOf l zone) (membersOf l zone - 1)))

@@ -9,32 +9,32 @@ use Rattle.ump.specs.Packet.{packetValue}
 use Rattle.mpe_layout.specs.declared.MpeZone.{MpeZone}
 use Rattle.mpe_layout.specs.declared.MpeLayout.{MpeLayout}
 use Rattle.mpe_allocator.specs.declared.MpeNoteAllocator.{MpeNoteAllocator}
-use Rattle.mpe_allocator.specs.declared.NoteOn.{NoteOn}
-use Rattle.mpe_allocator.specs.declared.NoteOn.the-variants.{Channel, OutOfRange, NoMembers}
+use Rattle.mpe_allocator.specs.declared.NoteReply.{NoteReply}
+use Rattle.mpe_allocator.specs.declared.NoteReply.the-variants.{Channel, OutOfRange, NoMembers}
 use Rattle.mpe_allocator.specs.Choice.{heldOn}
-use Rattle.mpe_allocator.specs.Allocator.{emptied, notedOn, withoutNote, withOption}
+use Rattle.mpe_allocator.specs.Allocator.{emptied, allocationOf, withoutNote, withOption}
 
 -- the calls on an allocator
-pub data Call : Type 0 where
-  note-on : MpeLayout → MpeZone → ℕ → Call
-  note-off : ℕ → Call
-  active-notes : ℕ → Call
-  same-note : Call
-  set-same-note : Bool → Call
-  reset : Call
+pub data AllocatorCall : Type 0 where
+  note-on : MpeLayout → MpeZone → ℕ → AllocatorCall
+  note-off : ℕ → AllocatorCall
+  active-notes : ℕ → AllocatorCall
+  same-note : AllocatorCall
+  set-same-note : Bool → AllocatorCall
+  reset : AllocatorCall
 
--- the allocator after a call, as each contract says
-unfoldable pub afterCall : MpeNoteAllocator → Call → MpeNoteAllocator
-afterCall a (note-on l zone note) = notedOn a l zone note .allocator
+-- the allocator afterCalls a call, as each contract says
+unfoldable pub afterCall : MpeNoteAllocator → AllocatorCall → MpeNoteAllocator
+afterCall a (note-on l zone note) = allocationOf a l zone note .allocator
 afterCall a (note-off channel) = withoutNote a (packetValue channel)
 afterCall a (active-notes channel) = a
 afterCall a same-note = a
 afterCall a (set-same-note on) = withOption a on
 afterCall a reset = emptied (a .«same_note»)
 
-unfoldable pub after : MpeNoteAllocator → List Call → MpeNoteAllocator
-after a [] = a
-after a (call ∷ calls) = after (afterCall a call) calls
+unfoldable pub afterCalls : MpeNoteAllocator → List AllocatorCall → MpeNoteAllocator
+afterCalls a [] = a
+afterCalls a (call ∷ calls) = afterCalls (afterCall a call) calls
 
 unfoldable pub sum : List ℕ → ℕ
 sum [] = 0
@@ -51,11 +51,11 @@ pub record Tally : Type 0 where
   pub offs : ℕ
   pub reached : Bool
 
-abbrev pub blank : Tally
-blank = record { ons = 0; offs = 0; reached = false }
+abbrev pub noTally : Tally
+noTally = record { ons = 0; offs = 0; reached = false }
 
 -- 1 for a note that got a channel
-abbrev pub got : NoteOn → ℕ
+abbrev pub got : NoteReply → ℕ
 got (Channel c) = 1
 got OutOfRange = 0
 got NoMembers = 0
@@ -64,28 +64,28 @@ got NoMembers = 0
 abbrev pub met : ℕ → ℕ
 met held = if eqb held 0 then 0 else 1
 
--- a tally after a call on allocator a
-unfoldable pub tallied : MpeNoteAllocator → Tally → Call → Tally
+-- a tally afterCalls a call on allocator a
+unfoldable pub tallied : MpeNoteAllocator → Tally → AllocatorCall → Tally
 tallied a t (note-on l zone note) =
     record {
-      ons = t .ons + got (notedOn a l zone note .reply);
+      ons = t .ons + got (allocationOf a l zone note .reply);
       offs = t .offs;
-      reached = t .reached || full (notedOn a l zone note .allocator .active);
+      reached = t .reached || full (allocationOf a l zone note .allocator .active);
     }
 tallied a t (note-off channel) =
     record { ons = t .ons; offs = t .offs + met (heldOn a (packetValue channel)); reached = t .reached }
 tallied a t (active-notes channel) = t
 tallied a t same-note = t
 tallied a t (set-same-note on) = t
-tallied a t reset = blank
+tallied a t reset = noTally
 
-unfoldable pub tally : MpeNoteAllocator → Tally → List Call → Tally
+unfoldable pub tally : MpeNoteAllocator → Tally → List AllocatorCall → Tally
 tally a t [] = t
 tally a t (call ∷ calls) = tally (afterCall a call) (tallied a t call) calls
 
--- after any calls on a new allocator, the counts sum to the note-ons less the note-offs, while none has reached 255
+-- afterCalls any calls on a new allocator, the counts sum to the note-ons less the note-offs, while none has reached 255
 abbrev pub CountsSum : Type 0
 CountsSum =
-    (calls : List Call) →
-    tally (emptied false) blank calls .reached ≡ false →
-    sum (after (emptied false) calls .active) + tally (emptied false) blank calls .offs ≡ tally (emptied false) blank calls .ons
+    (calls : List AllocatorCall) →
+    tally (emptied false) noTally calls .reached ≡ false →
+    sum (afterCalls (emptied false) calls .active) + tally (emptied false) noTally calls .offs ≡ tally (emptied false) noTally calls .ons

@@ -4,7 +4,7 @@ ghost use mathlib.Core.Bool.{true, false};
 ghost use Prim.Native.Nat.{_+_, _<_, _≤_};
 ghost use Rattle.ump.specs.Packet.{packetValue};
 ghost use Rattle.mpe_allocator.specs.Choice.{heldOn, tieFirst, smallerFirst, recalls, recallsOn, latestFirst, idlestFirst, byRecall, goesFirst, foremostOf, Foremost};
-ghost use Rattle.mpe_allocator.specs.Allocator.{emptied, noteOnFound, oneMore, withNote, Placed, NotedAs, notedOn, tick, withoutNote, withOption};
+ghost use Rattle.mpe_allocator.specs.Allocator.{emptied, noteReplyRead, oneMore, withNote, Placed, AllocatedAs, allocationOf, tick, withoutNote, withOption};
 use mpe_layout::LowestMember;
 use mpe_layout::Members;
 use mpe_layout::MpeLayout;
@@ -21,16 +21,16 @@ pub struct MpeNoteAllocator {
 }
 
 // What a new note gets.
-pub enum NoteOn {
+pub enum NoteReply {
     Channel(u8),
     OutOfRange,
     NoMembers,
 }
 
 // The allocator after `note_on`, and its answer.
-pub struct NotedOn {
+pub struct Allocation {
     pub allocator: MpeNoteAllocator,
-    pub reply: NoteOn,
+    pub reply: NoteReply,
 }
 
 // Of two channels that tie, the lower goes first.
@@ -179,37 +179,37 @@ impl MpeNoteAllocator {
     }
 
     // A note of this mark on the foremost channel from `first` up to below `end`.
-    fn place(self, mark: u8, first: usize, end: usize) -> NotedOn
+    fn place(self, mark: u8, first: usize, end: usize) -> Allocation
         requires { ⌜ (first < end) × (end ≤ 16) ⌝ }
         ensures { λ r. ⌜ Placed self mark first end r ⌝ }
     {
         let c = self.foremost(mark, first, end);
         let a = self.with_note(mark, c);
         let channel = c as u8;
-        NotedOn {
+        Allocation {
             allocator: a,
-            reply: NoteOn::Channel(channel),
+            reply: NoteReply::Channel(channel),
         }
     }
 
     // A member of `zone` for a new note, held there from now on (1.5.1, 2.2.4.1, A.3). A note is taken modulo 128.
-    pub fn note_on(self, layout: MpeLayout, zone: MpeZone, note: u8) -> NotedOn
-        ensures chosen { λ r. ⌜ NotedAs self layout zone note (noteOnFound (r .reply)) (r .allocator) ⌝ }
-        ensures is { λ r. ⌜ r ≡ notedOn self layout zone note ⌝ }
+    pub fn note_on(self, layout: MpeLayout, zone: MpeZone, note: u8) -> Allocation
+        ensures chosen { λ r. ⌜ AllocatedAs self layout zone note (noteReplyRead (r .reply)) (r .allocator) ⌝ }
+        ensures is { λ r. ⌜ r ≡ allocationOf self layout zone note ⌝ }
     {
         match layout.lowest_member(zone) {
-            LowestMember::OutOfRange => NotedOn {
+            LowestMember::OutOfRange => Allocation {
                 allocator: self,
-                reply: NoteOn::OutOfRange,
+                reply: NoteReply::OutOfRange,
             },
-            LowestMember::NoMembers => NotedOn {
+            LowestMember::NoMembers => Allocation {
                 allocator: self,
-                reply: NoteOn::NoMembers,
+                reply: NoteReply::NoMembers,
             },
             LowestMember::Channel(first) => match layout.members(zone) {
-                Members::OutOfRange => NotedOn {
+                Members::OutOfRange => Allocation {
                     allocator: self,
-                    reply: NoteOn::OutOfRange,
+                    reply: NoteReply::OutOfRange,
                 },
                 Members::Count(n) => {
                     let end = first as usize + n as usize;

@@ -1,12 +1,11 @@
 -- The channels that a change of layout resets (M1-100 2.2.3; document 01, "The receiver").
-use Prim.Native.Nat.{ℕ, _-_, _%_}
+use Prim.Native.Nat.{ℕ, _-_}
 use mathlib.Core.Bool.{Bool, true, false, not, _||_}
 use lib.Dec.{eqb}
-use Rattle.ump.specs.Choice.{if_then_else_}
 use Rattle.ump.specs.Outcome.{Outcome, given, outOfRange}
 use Rattle.ump.specs.Packet.{packetValue}
 use Rattle.ump.specs.Field.{field, maskTo}
-use Rattle.mpe_layout.specs.Layout.{ofLegal, placeOf, roleOf}
+use Rattle.mpe_layout.specs.Layout.{placeOf, roleOf}
 use Rattle.mpe_layout.specs.declared.MpeZone.{MpeZone}
 use Rattle.mpe_layout.specs.declared.MpeZone.the-variants.{Lower, Upper}
 use Rattle.mpe_layout.specs.declared.MpeRole.{MpeRole}

@@ -5,7 +5,7 @@ ghost use Prim.Native.Nat.{_<_};
 ghost use Rattle.ump.specs.Outcome.{given};
 ghost use Rattle.ump.specs.Packet.{packetValue};
 ghost use Rattle.ump.specs.Field.{maskTo};
-ghost use Rattle.mpe_layout.specs.Layout.{legalCounts, legal, ofLegal, layoutOf, membersOf, otherZone, managerOf, active, placeOf, roleAt, roleOf, lowestOf, lowestOrNone, leftBeside, layoutFor, withMcm, layoutMade, membersFound, roleFound, activityFound, lowestFound};
+ghost use Rattle.mpe_layout.specs.Layout.{legalCounts, legal, ofLegal, layoutOf, membersOf, otherZone, managerOf, active, placeOf, roleAt, roleOf, lowestOrNone, leftBeside, layoutFor, withMcm, layoutMade, membersFound, roleFound, activityFound, lowestFound};
 ghost use Rattle.mpe_layout.specs.declared.ZonePlace.the-variants.{Outside};
 ghost use Rattle.mpe_layout.specs.Reset.{inLower, inUpper, announcementMask, layoutMask, hitBy, named, maskFound};
 

@@ -13,7 +13,7 @@ use mir.Syntax.{w32}
 use mir.Val.{SFits}
 use Rattle.ump.specs.Choice.{if_then_else_}
 use Rattle.mpe_pitch.specs.declared.MpeSensitivity.{MpeSensitivity}
-use Rattle.mpe_pitch.specs.Pitch.{rangeOf, nearest, apart, offsetIn, pitchOffset}
+use Rattle.mpe_pitch.specs.Pitch.{rangeOf, nearest, apart, pitchOffset}
 use Rattle.mpe_pitch.specs.Claims.{NearestTo, Within, scaled, OffsetNearest, NoTie, OffsetWithin, SumWithin, OffsetRises}
 use Rattle.mpe_pitch.proofs.Order.{pos-le, neg-le-pos, neg-le-neg, sum, within-fits}
 

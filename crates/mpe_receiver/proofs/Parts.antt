@@ -15,14 +15,14 @@ use Rattle.parameters.specs.declared.MaybeEvent.the-variants.{NoEvent}
 use Rattle.mpe_layout.specs.declared.MpeLayout.{MpeLayout}
 use Rattle.mpe_layout.specs.Layout.{legal}
 use Rattle.mpe_layout.specs.Reset.{named}
-use Rattle.mpe_zones.specs.declared.Told.{Told}
+use Rattle.mpe_zones.specs.declared.ZonesUpdate.{ZonesUpdate}
 use Rattle.mpe_zones.specs.declared.Zones.{Zones}
-use Rattle.mpe_zones.specs.Zones.{roleHeld, laidOut, layoutResets}
-use Rattle.mpe_zones.specs.Told.{messageTold, eventOf, resetIn}
+use Rattle.mpe_zones.specs.Zones.{roleHeld, zonesSet, layoutResets}
+use Rattle.mpe_zones.specs.Update.{messageUpdate, plainEvent, resetIn}
 use Rattle.mpe_zones.proofs.Kept.{NoMode, none-reset, zones-kept, quiet-event}
 use Rattle.mpe_receiver.specs.declared.MpeReceiver.{MpeReceiver}
 use Rattle.mpe_receiver.specs.State.{zonesOf, withZones}
-use Rattle.mpe_receiver.specs.Receive.{hearing, stored, putWhere, restUpto, toldTo, heardOf, wordHeard, settled, setReply, setState}
+use Rattle.mpe_receiver.specs.Receive.{receiverUpdate, stored, putWhere, restUpto, withUpdate, receivedByFields, receivedByWord, settled, setReply, setState}
 
 module _ (r : MpeReceiver) where
   abbrev Same : MpeReceiver → Type 0
@@ -47,49 +47,49 @@ none-put v l (suc n) = rw (none-named n) (none-put v l n)
 pub rest-none : (r : MpeReceiver) → restUpto r 0 16 ≡ r
 rest-none r = rw (none-put 64 (r .brightness) 16, none-put 0 (r .pressure) 16, none-put 0x2000 (r .«pitch_bend») 16)
 
-pub told-nothing : (r : MpeReceiver) (t : Told) → t .zones ≡ zonesOf r → resetIn (t .event) ≡ 0 → toldTo r t .receiver ≡ r
-told-nothing r t p q = (λ i. restUpto (withZones r (p i)) (q i) 16) ∙ rest-none r
+pub nothing-updated : (r : MpeReceiver) (t : ZonesUpdate) → t .zones ≡ zonesOf r → resetIn (t .event) ≡ 0 → withUpdate r t .receiver ≡ r
+nothing-updated r t p q = (λ i. restUpto (withZones r (p i)) (q i) 16) ∙ rest-none r
 
 -- a choice whose test holds
 pub chosen : {A : Type 0} {b : Bool} (x y : A) → b ≡ true → (if b then x else y) ≡ x
 chosen x y p = ap (λ t. if t then x else y) p
 
 -- a message by the calls that make it
-pub heard-settled : (self : MpeReceiver) (e : MaybeEvent) (w : ℕ) {z : Zones} {o k a : ℕ} {t : Told} {r : MpeReceiver}
+pub received-settled : (self : MpeReceiver) (e : MaybeEvent) (w : ℕ) {z : Zones} {o k a : ℕ} {t : ZonesUpdate} {r : MpeReceiver}
     → z ≡ zonesOf self
     → o ≡ opcodeOf w
     → k ≡ channelOf w
     → a ≡ firstOf w
-    → t ≡ messageTold z e o k a
+    → t ≡ messageUpdate z e o k a
     → r ≡ settled self (t .zones) w (t .event)
-    → hearing r (t .event) ≡ wordHeard self e w
-unfolding heardOf
-heard-settled self e w {z} {o} {k} {a} {t} pz po pk pa pt p =
-    let told = pt ∙ (λ i. messageTold (pz i) e (po i) (pk i) (pa i)) in
-    ap (λ x. hearing x (t .event)) p ∙ ap (toldTo (stored self (opcodeOf w) (channelOf w) (firstOf w) (secondOf w))) told
+    → receiverUpdate r (t .event) ≡ receivedByWord self e w
+unfolding receivedByFields
+received-settled self e w {z} {o} {k} {a} {t} pz po pk pa pt p =
+    let zonesUpdate = pt ∙ (λ i. messageUpdate (pz i) e (po i) (pk i) (pa i)) in
+    ap (λ x. receiverUpdate x (t .event)) p ∙ ap (withUpdate (stored self (opcodeOf w) (channelOf w) (firstOf w) (secondOf w))) zonesUpdate
 
 -- a layout that is set, likewise
-pub set-told : (self : MpeReceiver) (l : MpeLayout) {mask : ℕ} {z y : Zones} {w r : MpeReceiver} → legal l ≡ true
+pub set-updated : (self : MpeReceiver) (l : MpeLayout) {mask : ℕ} {z y : Zones} {w r : MpeReceiver} → legal l ≡ true
     → mask ≡ layoutResets (self .layout) l
     → z ≡ zonesOf self
-    → y ≡ laidOut z l
+    → y ≡ zonesSet z l
     → w ≡ withZones self y
     → r ≡ restUpto w mask 16
     → (given mask ≡ setReply self l) × (r ≡ setState self l)
-set-told self l h pm pz py pw p =
-    let zones = py ∙ ap (λ x. laidOut x l) pz in (
+set-updated self l h pm pz py pw p =
+    let zones = py ∙ ap (λ x. zonesSet x l) pz in (
       ap given pm ∙ sym (chosen _ outOfRange h),
       p ∙ (λ i. restUpto ((pw ∙ ap (withZones self) zones) i) (pm i) 16) ∙ sym (chosen _ self h),
     )
 
 -- a message that sets no mode, and for which the parameters gave no event, is stored, and no more
-pub receiver-quiet : (r : MpeReceiver) (o k a b : ℕ) → NoMode o a → heardOf r NoEvent o k a b .receiver ≡ stored r o k a b
-unfolding heardOf
+pub receiver-quiet : (r : MpeReceiver) (o k a b : ℕ) → NoMode o a → receivedByFields r NoEvent o k a b .receiver ≡ stored r o k a b
+unfolding receivedByFields
 receiver-quiet r o k a b n =
     let z = zonesOf r in
     let ro = roleHeld (z .layout) k in
     let f = quiet-event z o k a n in
-    let t = messageTold z NoEvent o k a in
-    told-nothing (stored r o k a b) t
-    (zones-kept z k ro (eventOf z k ro o a) o NoEvent a f ∙ sym (zones-stored r o k a b))
+    let t = messageUpdate z NoEvent o k a in
+    nothing-updated (stored r o k a b) t
+    (zones-kept z k ro (plainEvent z k ro o a) o NoEvent a f ∙ sym (zones-stored r o k a b))
     (none-reset (t .event) f)

@@ -6,11 +6,10 @@ use mathlib.Core.Bool.{true, false}
 use lib.Dec.{lit≤}
 use lib.IntN.{ℤ}
 use native.Mathlib.Omega.{arith}
-use Rattle.ump.specs.Outcome.{given, noneThere}
+use Rattle.ump.specs.Outcome.{given}
 use Rattle.mpe_layout.specs.declared.MpeRole.{MpeRole}
 use Rattle.mpe_layout.specs.declared.MpeRole.the-variants.{NoZone, Manager, Member}
 use Rattle.mpe_layout.specs.Layout.{managerOf}
-use Rattle.mpe_pitch.specs.Pitch.{pitchOffset}
 use Rattle.mpe_pitch.specs.Claims.{Within}
 use Rattle.mpe_pitch.proofs.Order.{widen}
 use Rattle.mpe_pitch.proofs.Offset.{offset-within, sum-within}

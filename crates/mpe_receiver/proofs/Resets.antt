@@ -17,7 +17,7 @@ use Rattle.mpe_layout.specs.Reset.{named}
 use Rattle.mpe_receiver.specs.declared.MpeReceiver.{MpeReceiver}
 use Rattle.mpe_receiver.specs.Receive.{putWhere, restUpto}
 use Rattle.mpe_receiver.specs.Read.{bendAt, pressureAt, brightnessAt}
-use Rattle.mpe_receiver.specs.WellFormed.{WellFormed}
+use Rattle.mpe_receiver.specs.WellFormed.{ReceiverFormed}
 use Rattle.mpe_receiver.proofs.WellFormed.{put-length}
 
 module _ (hit : ℕ → Bool) (v : ℕ) (l : List ℕ) where
@@ -45,7 +45,7 @@ module _ (hit : ℕ → Bool) (v : ℕ) (l : List ℕ) where
       (put-at n i b (omega arith)))
       (eq-or-lt-of-le (le-of-suc-le-suc h))
 
-module _ (r : MpeReceiver) (mask channel : ℕ) (w : WellFormed r) where
+module _ (r : MpeReceiver) (mask channel : ℕ) (w : ReceiverFormed r) where
   rested : (v : ℕ) (l : List ℕ) → length l ≡ 16
       → getD (putWhere (named mask) v l 16) (packetValue channel) 0 ≡ (if named mask channel then v else getD l (packetValue channel) 0)
   rested v l e =

@@ -11,12 +11,12 @@ use Rattle.ump.proofs.Cases.{by-test}
 use Rattle.parameters.specs.declared.MaybeEvent.{MaybeEvent}
 use Rattle.mpe_layout.specs.declared.MpeRole.{MpeRole}
 use Rattle.mpe_zones.specs.declared.MpeEvent.{MpeEvent}
-use Rattle.mpe_zones.specs.Told.{saidBy, toldAs, changesBy}
+use Rattle.mpe_zones.specs.Update.{decoded, updatedAs, changesBy}
 use Rattle.mpe_zones.proofs.Kept.{none-reset, zones-kept}
 use Rattle.mpe_receiver.specs.declared.MpeReceiver.{MpeReceiver}
 use Rattle.mpe_receiver.specs.State.{withBrightnesses, zonesOf}
 use Rattle.mpe_receiver.specs.Receive.{stored, settlesBy, settled}
-use Rattle.mpe_receiver.proofs.Parts.{zones-stored, told-nothing}
+use Rattle.mpe_receiver.proofs.Parts.{zones-stored, nothing-updated}
 
 -- a message's control stored
 abbrev pub put : ℕ → MpeReceiver → MpeReceiver
@@ -36,16 +36,16 @@ module _ (w : ℕ) (control : opcodeOf w ≡ 0xB) (r : MpeReceiver) where
   unfolding stored
   lit-put n = rw control (by-test (eqb (firstOf w) 74) (λ t. rw t) (λ f. rw (f, n)))
 
-  -- what the zones are told settles nothing
+  -- what the zones are zonesUpdate settles nothing
   pub unsettled : (channel : ℕ) (ro : MpeRole) (plain : MpeEvent) (e : MaybeEvent)
-      → settlesBy w (toldAs (zonesOf r) channel ro plain (saidBy (opcodeOf w) e) (firstOf w) .event) ≡ false
+      → settlesBy w (updatedAs (zonesOf r) channel ro plain (decoded (opcodeOf w) e) (firstOf w) .event) ≡ false
       → (if eqb (firstOf w) 74 then lit w r else r)
-      ≡ settled r (toldAs (zonesOf r) channel ro plain (saidBy (opcodeOf w) e) (firstOf w) .zones) w (toldAs (zonesOf r) channel ro plain (saidBy (opcodeOf w) e) (firstOf w) .event)
+      ≡ settled r (updatedAs (zonesOf r) channel ro plain (decoded (opcodeOf w) e) (firstOf w) .zones) w (updatedAs (zonesOf r) channel ro plain (decoded (opcodeOf w) e) (firstOf w) .event)
   unsettled channel ro plain e f =
-      let t = toldAs (zonesOf r) channel ro plain (saidBy (opcodeOf w) e) (firstOf w) in
+      let t = updatedAs (zonesOf r) channel ro plain (decoded (opcodeOf w) e) (firstOf w) in
       let n = neither (eqb (firstOf w) 121) (changesBy (t .event)) f in
       lit-put (n .0)
       ∙ sym
-      (told-nothing (put w r) t
+      (nothing-updated (put w r) t
       (zones-kept (zonesOf r) channel ro plain (opcodeOf w) e (firstOf w) (n .1) ∙ sym (zones-stored r (opcodeOf w) (channelOf w) (firstOf w) (secondOf w)))
       (none-reset (t .event) (n .1)))

@@ -20,14 +20,14 @@ use Rattle.mpe_pitch.specs.declared.MpeSensitivity.{MpeSensitivity}
 use Rattle.mpe_pitch.specs.Pitch.{managerDefault, memberDefault, pitchOffset, pitchBendValue}
 
 -- a call, with its arguments
-pub data Call : Type 0 where
-  new : ℕ → ℕ → Call
-  with-mcm : MpeLayout → MpeZone → ℕ → Call
-  role : MpeLayout → ℕ → Call
-  pitch-bend-value : ℤ → MpeSensitivity → Call
-  pitch-offset : ℕ → MpeSensitivity → Call
+pub data BenchCall : Type 0 where
+  new : ℕ → ℕ → BenchCall
+  with-mcm : MpeLayout → MpeZone → ℕ → BenchCall
+  role : MpeLayout → ℕ → BenchCall
+  pitch-bend-value : ℤ → MpeSensitivity → BenchCall
+  pitch-offset : ℕ → MpeSensitivity → BenchCall
   -- of RPN 0, a change of semitones and cents
-  apply : ParameterChange → ℕ → ℕ → Call
+  apply : ParameterChange → ℕ → ℕ → BenchCall
 
 -- what a call answers
 pub data Reply : Type 0 where
@@ -41,7 +41,7 @@ abbrev inAll : ℕ → ℕ → ℕ
 inAll semitones cents = semitones * 128 + cents
 
 -- what the contract of the call says
-unfoldable pub replyTo : Call → Reply
+unfoldable pub replyTo : BenchCall → Reply
 replyTo (new lower upper) = asLayout (ofLegal (layoutOf lower upper) (given (layoutOf lower upper)))
 replyTo (with-mcm l zone members) = asLayout (ofLegal l (given (withMcm l zone members)))
 replyTo (role l channel) = asRole (ofLegal l (given (roleOf l (packetValue channel))))
@@ -51,10 +51,10 @@ replyTo (apply change semitones cents) =
     asValue (applied (record { parameter = Registered PitchBendSensitivity; change = change }) (inAll semitones cents))
 
 pub record Example : Type 0 where
-  pub call : Call
+  pub call : BenchCall
   pub reply : Reply
 
-abbrev example : Call → Reply → Example
+abbrev example : BenchCall → Reply → Example
 example c r = record { call = c; reply = r }
 
 -- 2/0 and 48/0 are the defaults of a manager and of members

@@ -1,7 +1,6 @@
 -- What the receiver shows (M1-100 2.2.4 to 2.2.8, Appendix C.5).
-use Prim.Native.Nat.{ℕ, _%_}
+use Prim.Native.Nat.{ℕ}
 use mathlib.Core.Bool.{Bool, true, false}
-use mathlib.Core.List.{List}
 use lib.ListN.{getD}
 use lib.IntN.{ℤ, _+ℤ_}
 use Rattle.ump.specs.Choice.{if_then_else_}
@@ -25,7 +24,7 @@ abbrev pub modeOf : MpeReceiver → MpeZone → ℕ
 modeOf r zone = if monoOf (zonesOf r) zone then 4 else 3
 
 abbrev pub sensitivityOf : MpeReceiver → MpeZone → Bool → MpeSensitivity
-sensitivityOf r zone manager = zones.sensitivityOf (zonesOf r) zone manager
+sensitivityOf r zone manager = zones.zoneSensitivity (zonesOf r) zone manager
 
 -- the channel is taken modulo 16
 abbrev pub bendAt : MpeReceiver → ℕ → ℕ

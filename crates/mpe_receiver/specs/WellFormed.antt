@@ -5,7 +5,7 @@ use lib.ListN.{length}
 use Rattle.mpe_layout.specs.Layout.{legal}
 use Rattle.mpe_receiver.specs.declared.MpeReceiver.{MpeReceiver}
 
-pub record WellFormed (r : MpeReceiver) : Type 0 where
+pub record ReceiverFormed (r : MpeReceiver) : Type 0 where
   pub sensitivities : length (r .sensitivity) ≡ 8
   pub bends : length (r .«pitch_bend») ≡ 16
   pub pressures : length (r .pressure) ≡ 16

@@ -2,9 +2,9 @@
 ghost use mathlib.Core.Path.{_≡_};
 ghost use Prim.Native.Nat.{_<_};
 ghost use Rattle.mpe_layout.specs.Reset.{maskFound};
-ghost use Rattle.mpe_zones.specs.Told.{resetIn};
+ghost use Rattle.mpe_zones.specs.Update.{resetIn};
 ghost use Rattle.mpe_receiver.specs.State.{newReceiver, zonesOf, withZones};
-ghost use Rattle.mpe_receiver.specs.Receive.{stored, restUpto, wordHeard, replyRead, receivedReply, receivedState, setReply, setState, settlesBy, settled};
+ghost use Rattle.mpe_receiver.specs.Receive.{stored, restUpto, receivedByWord, receiverReplyRead, receiverReply, receiverAfter, setReply, setState, settlesBy, settled};
 ghost use Rattle.mpe_receiver.specs.Read.{modeOf, sensitivityOf, bendAt, pressureAt, brightnessAt, managerOffset, memberOffset, offsetByRole, offsetOf, offsetRead};
 use mpe_layout::MpeLayout;
 use mpe_layout::MpeRole;
@@ -40,14 +40,14 @@ pub struct MpeReceiver {
     pub brightness: [u8; 16],
 }
 
-pub struct Heard {
+pub struct ReceiverUpdate {
     pub receiver: MpeReceiver,
     pub event: MpeEvent,
 }
 
 // What `receive` answers.
 pub enum Reply {
-    Heard(MpeEvent),
+    Received(MpeEvent),
     OutOfRange,
 }
 
@@ -195,29 +195,29 @@ impl MpeReceiver {
     }
 
     // A word that is a message: the zones hear it, and the receiver is settled with their event.
-    fn hear(self, parameter: MaybeEvent, word: u32) -> Heard
-        ensures { λ r. ⌜ r ≡ wordHeard self parameter word ⌝ }
+    fn receive_message(self, parameter: MaybeEvent, word: u32) -> ReceiverUpdate
+        ensures { λ r. ⌜ r ≡ receivedByWord self parameter word ⌝ }
     {
         let t = self.zones()
-            .hear(parameter, opcode(word), channel(word), first_data(word));
+            .receive(parameter, opcode(word), channel(word), first_data(word));
         let zones = t.zones;
         let event = t.event;
         let r = self.settle(zones, word, event);
-        Heard { receiver: r, event }
+        ReceiverUpdate { receiver: r, event }
     }
 
     // One message, with the event that its channel's parameters gave for it. A word that is no message is out of range.
     pub fn receive(self, word: u32, parameter: MaybeEvent) -> Received
-        ensures reply { λ r. ⌜ replyRead (r .reply) ≡ receivedReply self word parameter ⌝ }
-        ensures state { λ r. ⌜ r .receiver ≡ receivedState self word parameter ⌝ }
+        ensures reply { λ r. ⌜ receiverReplyRead (r .reply) ≡ receiverReply self word parameter ⌝ }
+        ensures state { λ r. ⌜ r .receiver ≡ receiverAfter self word parameter ⌝ }
     {
         if is_message(word) {
-            let h = self.hear(parameter, word);
+            let h = self.receive_message(parameter, word);
             let s = h.receiver;
             let e = h.event;
             return Received {
                 receiver: s,
-                reply: Reply::Heard(e),
+                reply: Reply::Received(e),
             };
         }
         Received {

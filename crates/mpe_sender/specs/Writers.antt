@@ -1,6 +1,6 @@
 -- The messages that a sender writes for a channel or a note, with Group 0 (M1-100 2.2.1, 2.2.4.3, 2.2.5, 2.4, Appendices B and C).
 use Prim.Native.Nat.{ℕ}
-use mathlib.Core.Bool.{Bool, true, false}
+use mathlib.Core.Bool.{Bool}
 use mathlib.Core.List.{List, [], _∷_}
 use lib.Dec.{ltb, eqb}
 use lib.ListN.{length}

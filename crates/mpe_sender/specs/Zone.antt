@@ -1,12 +1,11 @@
 -- The sensitivity messages of a whole zone (M1-100 2.2.5), and the buffer that they are written to.
 use Prim.Native.Nat.{ℕ, zero, suc, _+_, _*_, _-_, _<_, _≤_}
-use mathlib.Core.Bool.{Bool, true, false}
-use mathlib.Core.List.{List, [], _∷_, _++_}
+use mathlib.Core.List.{List, [], _++_}
 use lib.Dec.{ltb, eqb}
-use lib.ListN.{length, drop}
+use lib.ListN.{drop}
 use Rattle.ump.specs.Choice.{if_then_else_}
 use Rattle.ump.specs.Outcome.{Outcome, given, declined, outOfRange, tooSmall}
-use Rattle.mpe_layout.specs.Layout.{legal, ofLegal, membersOf, managerOf, lowestOf, lowestOrNone}
+use Rattle.mpe_layout.specs.Layout.{ofLegal, membersOf, managerOf, lowestOf, lowestOrNone}
 use Rattle.mpe_layout.specs.declared.MpeZone.{MpeZone}
 use Rattle.mpe_layout.specs.declared.MpeLayout.{MpeLayout}
 use Rattle.mpe_sender.specs.Writers.{sensitivityGroup, groupSize, inActive}

@@ -6,7 +6,6 @@ ghost use lib.ListN.{length, drop};
 ghost use Rattle.ump.specs.Outcome.{allOf, followedBy};
 ghost use Rattle.ump.specs.Packet.{packetValue};
 ghost use Rattle.ump.specs.Word.{twoDataWord, oneDataWord, bendWord, messageMade, twoMade, threeMade, fourMade};
-ghost use Rattle.parameter_messages.specs.Writers.{selectMessages, changeMessage};
 ghost use Rattle.mpe_sender.specs.Writers.{rpnMessages, mcmMessages, sensitivityGroup, groupSize, sensitivityMessages, modeOn, modeMessage, noteMessages};
 ghost use Rattle.mpe_sender.specs.Zone.{zoneFor, channelAt, semitonesAt, groupAt, InRange, groups, zoneWords, fillReply, zoneReply, filled, writtenRead};
 use mpe_layout::LowestMember;

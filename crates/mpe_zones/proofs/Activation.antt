@@ -11,8 +11,8 @@ use Rattle.mpe_layout.specs.declared.MpeZone.the-variants.{Lower, Upper}
 use Rattle.mpe_layout.specs.Layout.{otherZone}
 use Rattle.mpe_pitch.specs.Pitch.{managerDefault, memberDefault}
 use Rattle.mpe_zones.specs.declared.Zones.{Zones}
-use Rattle.mpe_zones.specs.Zones.{withSensitivities, withMono, monoOf, slotOf, sensitivityPut, sensitivityAt, sensitivityOf, activated}
-use Rattle.mpe_zones.specs.WellFormed.{WellFormed}
+use Rattle.mpe_zones.specs.Zones.{withSensitivities, withMono, monoOf, slotOf, sensitivityPut, sensitivityAt, zoneSensitivity, activated}
+use Rattle.mpe_zones.specs.WellFormed.{ZonesFormed}
 use Rattle.mpe_zones.proofs.Slots.{slot-fits, slot-even, halves-apart, zones-apart, put-same, put-other}
 
 -- a mode is set beside the sensitivities
@@ -26,7 +26,7 @@ module _ (z : Zones) (zone : MpeZone) where
   managed = sensitivityPut (z .sensitivity) (slotOf zone true) (managerDefault .semitones) (managerDefault .cents)
 
   -- the members' is put beside every other
-  beside : (y : MpeZone) (m : Bool) → (slotOf y m ≡ slotOf zone false → ⊥) → sensitivityOf (activated z zone) y m ≡ sensitivityAt managed (slotOf y m)
+  beside : (y : MpeZone) (m : Bool) → (slotOf y m ≡ slotOf zone false → ⊥) → zoneSensitivity (activated z zone) y m ≡ sensitivityAt managed (slotOf y m)
   unfolding activated
   beside y m ne =
       rw mono-beside (put-other managed (slotOf zone false) (slotOf y m) _ _ (slot-even zone false) (slot-even y m) ne)
@@ -36,18 +36,18 @@ module _ (z : Zones) (zone : MpeZone) where
   unfolding activated
   activated-only = rw mono-beside
 
-  pub activated-manager : WellFormed z → sensitivityOf (activated z zone) zone true ≡ managerDefault
+  pub activated-manager : ZonesFormed z → zoneSensitivity (activated z zone) zone true ≡ managerDefault
   activated-manager w =
       beside zone true (halves-apart zone)
       ∙ put-same (z .sensitivity) (slotOf zone true) _ _ (omega (arith, slot-fits zone true, w .sensitivities))
 
-  pub activated-members : WellFormed z → sensitivityOf (activated z zone) zone false ≡ memberDefault
+  pub activated-members : ZonesFormed z → zoneSensitivity (activated z zone) zone false ≡ memberDefault
   unfolding activated
   activated-members w =
       rw mono-beside
       (put-same managed (slotOf zone false) _ _ (simp length-set (omega (arith, slot-fits zone false, w .sensitivities))))
 
-  pub activated-other : (manager : Bool) → sensitivityOf (activated z zone) (otherZone zone) manager ≡ sensitivityOf z (otherZone zone) manager
+  pub activated-other : (manager : Bool) → zoneSensitivity (activated z zone) (otherZone zone) manager ≡ zoneSensitivity z (otherZone zone) manager
   activated-other manager =
       beside (otherZone zone) manager (zones-apart zone manager false)
       ∙ put-other (z .sensitivity) (slotOf zone true) (slotOf (otherZone zone) manager) _ _ (slot-even zone true) (slot-even (otherZone zone) manager) (zones-apart zone manager true)

@@ -20,13 +20,13 @@ use Rattle.mpe_layout.specs.declared.MpeRole.{MpeRole}
 use Rattle.mpe_layout.specs.declared.MpeRole.the-variants as role
 use Rattle.mpe_zones.specs.declared.MpeEvent.{MpeEvent}
 use Rattle.mpe_zones.specs.declared.MpeEvent.the-variants.{NoZone, Zone, Layout, Sensitivity, Mode, Ignored}
-use Rattle.mpe_zones.specs.declared.Said.{Said}
-use Rattle.mpe_zones.specs.declared.Said.the-variants.{Nothing, Configuration, BendSensitivity}
-use Rattle.mpe_zones.specs.declared.Told.{Told}
+use Rattle.mpe_zones.specs.declared.Decoded.{Decoded}
+use Rattle.mpe_zones.specs.declared.Decoded.the-variants.{Nothing, Configuration, BendSensitivity}
+use Rattle.mpe_zones.specs.declared.ZonesUpdate.{ZonesUpdate}
 use Rattle.mpe_zones.specs.declared.Zones.{Zones}
-use Rattle.mpe_zones.specs.Zones.{withSensitivities, withMono, monoOf, slotOf, sensitivityOf, roleHeld}
-use Rattle.mpe_zones.specs.Told.{told, announced, configuredBy, configuredAs, announcing, sensitivityApplied, sensed, inMode4, modeMessage, onMember, eventOf, modeSet, saidBy, toldAs, messageTold, resetIn, changesBy}
-use Rattle.mpe_zones.specs.WellFormed.{WellFormed}
+use Rattle.mpe_zones.specs.Zones.{withSensitivities, withMono, monoOf, slotOf, zoneSensitivity, roleHeld}
+use Rattle.mpe_zones.specs.Update.{zonesUpdate, announced, configuredBy, configuredAs, announcing, sensitivityApplied, sensed, inMode4, modeEvent, onMember, plainEvent, modeSet, decoded, updatedAs, messageUpdate, resetIn, changesBy}
+use Rattle.mpe_zones.specs.WellFormed.{ZonesFormed}
 use Rattle.mpe_zones.specs.Claims.{monoAfter}
 use Rattle.mpe_zones.proofs.Slots.{slot-fits, slot-even, put-same, put-other}
 
@@ -51,17 +51,17 @@ rpn-zero-only z zone manager e = refl
 
 -- of these the one that it names
 pub rpn-zero-other : (z : Zones) (zone : MpeZone) (manager : Bool) (e : ParameterEvent) (y : MpeZone) (m : Bool)
-    → (slotOf y m ≡ slotOf zone manager → ⊥) → sensitivityOf (rpnZero z zone manager e) y m ≡ sensitivityOf z y m
+    → (slotOf y m ≡ slotOf zone manager → ⊥) → zoneSensitivity (rpnZero z zone manager e) y m ≡ zoneSensitivity z y m
 rpn-zero-other z zone manager e y m ne =
-    ap (λ x. sensitivityOf x y m) (applied-to z zone manager e)
+    ap (λ x. zoneSensitivity x y m) (applied-to z zone manager e)
     ∙ put-other (z .sensitivity) (slotOf zone manager) (slotOf y m) _ _ (slot-even zone manager) (slot-even y m) ne
 
 -- to the new value of RPN 0
-pub rpn-zero-same : (z : Zones) (zone : MpeZone) (manager : Bool) (e : ParameterEvent) (v : ℕ) → WellFormed z
-    → v ≡ applied e (sensitivityOf z zone manager .semitones * 128 + sensitivityOf z zone manager .cents)
-    → sensitivityOf (rpnZero z zone manager e) zone manager ≡ record { semitones = v / 128; cents = v % 128 }
+pub rpn-zero-same : (z : Zones) (zone : MpeZone) (manager : Bool) (e : ParameterEvent) (v : ℕ) → ZonesFormed z
+    → v ≡ applied e (zoneSensitivity z zone manager .semitones * 128 + zoneSensitivity z zone manager .cents)
+    → zoneSensitivity (rpnZero z zone manager e) zone manager ≡ record { semitones = v / 128; cents = v % 128 }
 rpn-zero-same z zone manager e v w h =
-    ap (λ x. sensitivityOf x zone manager) (applied-to z zone manager e)
+    ap (λ x. zoneSensitivity x zone manager) (applied-to z zone manager e)
     ∙ rw h (put-same (z .sensitivity) (slotOf zone manager) _ _ (omega (arith, slot-fits zone manager, w .sensitivities)))
 
 pub mono-same : (z : Zones) (zone : MpeZone) → withMono z zone (monoOf z zone) ≡ z
@@ -73,7 +73,7 @@ module _ (z : Zones) (zone : MpeZone) (mono lowest : Bool) where
   by-mode : (a : ℕ) → modeSet z (inMode4 zone mono) a ≡ withMono z zone (monoOf z zone)
   by-mode a = by-test mono (λ e. rw e (sym (mono-same z zone))) (λ e. rw e (sym (mono-same z zone)))
 
-  by-lowest : (a : ℕ) → modeSet z (modeMessage zone lowest) a ≡ withMono z zone (if lowest then eqb a 126 else monoOf z zone)
+  by-lowest : (a : ℕ) → modeSet z (modeEvent zone lowest) a ≡ withMono z zone (if lowest then eqb a 126 else monoOf z zone)
   by-lowest a = by-test lowest (λ e. rw e) (λ e. rw e (sym (mono-same z zone)))
 
   controlled : (a : ℕ) → modeSet z (onMember zone mono lowest 0xB a) a ≡ withMono z zone (monoAfter (monoOf z zone) lowest 0xB a)
@@ -93,7 +93,7 @@ module _ (z : Zones) (zone : MpeZone) (mono lowest : Bool) where
       (λ e. by-test (eqb opcode 0xC) (λ f. rw (eqb-true opcode 0xC f) (by-mode a))
       (λ f. rw (e, f, g) (sym (mono-same z zone)))))
 
--- the events that tell of no change of the zones reset no channel
+-- the events that apply of no change of the zones reset no channel
 pub none-reset : (e : MpeEvent) → changesBy e ≡ false → resetIn e ≡ 0
 none-reset NoZone f = refl
 none-reset (Zone y m) f = refl
@@ -103,14 +103,14 @@ none-reset (Mode y) f = refl
 none-reset Ignored f = refl
 
 -- and the zones stay
-record Kept (z : Zones) (t : Told) : Type 0 where
+record Kept (z : Zones) (t : ZonesUpdate) : Type 0 where
   kept : changesBy (t .event) ≡ false → t .zones ≡ z
 
 module _ (z : Zones) where
-  stays : (e : MpeEvent) → Kept z (told z e)
+  stays : (e : MpeEvent) → Kept z (zonesUpdate z e)
   stays e = record { kept = λ f. refl }
 
-  changes : {t : Told} → changesBy (t .event) ≡ true → Kept z t
+  changes : {t : ZonesUpdate} → changesBy (t .event) ≡ true → Kept z t
   changes c = record { kept = λ f. absurd (true≢false (sym c ∙ f)) }
 
   announced-kept : (zone : MpeZone) (members : ℕ) → Kept z (announced z zone members)
@@ -133,7 +133,7 @@ module _ (z : Zones) where
   sensed-kept (role.Manager zone) e = changes refl
   sensed-kept (role.Member zone) e = changes refl
 
-  mode-kept : (e : MpeEvent) (a : ℕ) → Kept z (told (modeSet z e a) e)
+  mode-kept : (e : MpeEvent) (a : ℕ) → Kept z (zonesUpdate (modeSet z e a) e)
   mode-kept NoZone a = stays NoZone
   mode-kept (Zone y m) a = stays (Zone y m)
   mode-kept (Layout m) a = stays (Layout m)
@@ -141,14 +141,14 @@ module _ (z : Zones) where
   mode-kept (Mode y) a = changes refl
   mode-kept Ignored a = stays Ignored
 
-  said-kept : (channel : ℕ) (ro : MpeRole) (plain : MpeEvent) (said : Said) (a : ℕ) → Kept z (toldAs z channel ro plain said a)
-  said-kept channel ro plain (Configuration change) a = configured-kept (announcing channel) change
-  said-kept channel ro plain (BendSensitivity e) a = sensed-kept ro e
-  said-kept channel ro plain Nothing a = mode-kept plain a
+  decoded-kept : (channel : ℕ) (ro : MpeRole) (plain : MpeEvent) (said : Decoded) (a : ℕ) → Kept z (updatedAs z channel ro plain said a)
+  decoded-kept channel ro plain (Configuration change) a = configured-kept (announcing channel) change
+  decoded-kept channel ro plain (BendSensitivity e) a = sensed-kept ro e
+  decoded-kept channel ro plain Nothing a = mode-kept plain a
 
   pub zones-kept : (channel : ℕ) (ro : MpeRole) (plain : MpeEvent) (opcode : ℕ) (e : MaybeEvent) (a : ℕ)
-      → changesBy (toldAs z channel ro plain (saidBy opcode e) a .event) ≡ false → toldAs z channel ro plain (saidBy opcode e) a .zones ≡ z
-  zones-kept channel ro plain opcode e a = said-kept channel ro plain (saidBy opcode e) a .kept
+      → changesBy (updatedAs z channel ro plain (decoded opcode e) a .event) ≡ false → updatedAs z channel ro plain (decoded opcode e) a .zones ≡ z
+  zones-kept channel ro plain opcode e a = decoded-kept channel ro plain (decoded opcode e) a .kept
 
 -- a message that sets no mode
 abbrev pub NoMode : ℕ → ℕ → Type 0
@@ -172,16 +172,16 @@ module _ (zone : MpeZone) (mono lowest : Bool) (o a : ℕ) (n : NoMode o a) wher
       (of-both Still (eqb a 0) still-mode (of-both Still (eqb a 32) still-mode refl)))
       (λ g. rw g (of-both Still (eqb o 0xA) refl (of-both Still (eqb o 0xC) still-mode refl)))
 
-pub event-still : (z : Zones) (channel : ℕ) (ro : MpeRole) (o a : ℕ) → NoMode o a → changesBy (eventOf z channel ro o a) ≡ false
+pub event-still : (z : Zones) (channel : ℕ) (ro : MpeRole) (o a : ℕ) → NoMode o a → changesBy (plainEvent z channel ro o a) ≡ false
 event-still z channel role.NoZone o a n = refl
 event-still z channel (role.Manager zone) o a n = refl
 event-still z channel (role.Member zone) o a n = member-still zone _ _ o a n
 
--- with no parameter event a message is told by its channel's role
-pub plain-told : (z : Zones) (o channel a : ℕ)
-    → messageTold z NoEvent o channel a
-    ≡ told (modeSet z (eventOf z channel (roleHeld (z .layout) channel) o a) a) (eventOf z channel (roleHeld (z .layout) channel) o a)
-plain-told z o channel a = by-test (eqb o 0xB) (λ e. rw e) (λ e. rw e)
+-- with no parameter event a message is zonesUpdate by its channel's role
+pub plain-update : (z : Zones) (o channel a : ℕ)
+    → messageUpdate z NoEvent o channel a
+    ≡ zonesUpdate (modeSet z (plainEvent z channel (roleHeld (z .layout) channel) o a) a) (plainEvent z channel (roleHeld (z .layout) channel) o a)
+plain-update z o channel a = by-test (eqb o 0xB) (λ e. rw e) (λ e. rw e)
 
-pub quiet-event : (z : Zones) (o channel a : ℕ) → NoMode o a → changesBy (messageTold z NoEvent o channel a .event) ≡ false
-quiet-event z o channel a n = rw (plain-told z o channel a) (event-still z channel (roleHeld (z .layout) channel) o a n)
+pub quiet-event : (z : Zones) (o channel a : ℕ) → NoMode o a → changesBy (messageUpdate z NoEvent o channel a .event) ≡ false
+quiet-event z o channel a n = rw (plain-update z o channel a) (event-still z channel (roleHeld (z .layout) channel) o a n)

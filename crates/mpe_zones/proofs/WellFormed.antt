@@ -20,33 +20,33 @@ use Rattle.mpe_layout.specs.Layout.{legal}
 use Rattle.mpe_layout.proofs.Mcm.{mcm-legal}
 use Rattle.mpe_zones.specs.declared.MpeEvent.{MpeEvent}
 use Rattle.mpe_zones.specs.declared.MpeEvent.the-variants.{NoZone, Zone, Layout, Sensitivity, Mode, Ignored}
-use Rattle.mpe_zones.specs.declared.Said.{Said}
-use Rattle.mpe_zones.specs.declared.Said.the-variants.{Nothing, Configuration, BendSensitivity}
-use Rattle.mpe_zones.specs.declared.Told.{Told}
+use Rattle.mpe_zones.specs.declared.Decoded.{Decoded}
+use Rattle.mpe_zones.specs.declared.Decoded.the-variants.{Nothing, Configuration, BendSensitivity}
+use Rattle.mpe_zones.specs.declared.ZonesUpdate.{ZonesUpdate}
 use Rattle.mpe_zones.specs.declared.Zones.{Zones}
-use Rattle.mpe_zones.specs.Zones.{withLayout, withSensitivities, withMono, activated, activatedIf, laidOut, announcedTo, roleHeld}
-use Rattle.mpe_zones.specs.Told.{announced, configuredBy, configuredAs, announcing, sensed, modeSet, eventOf, saidBy, toldAs, messageTold}
-use Rattle.mpe_zones.specs.WellFormed.{WellFormed}
+use Rattle.mpe_zones.specs.Zones.{withLayout, withSensitivities, withMono, activated, activatedIf, zonesSet, announcedTo, roleHeld}
+use Rattle.mpe_zones.specs.Update.{announced, configuredBy, configuredAs, announcing, sensed, modeSet, plainEvent, decoded, updatedAs, messageUpdate}
+use Rattle.mpe_zones.specs.WellFormed.{ZonesFormed}
 
-module _ (z : Zones) (w : WellFormed z) where
-  sensitivities-formed : (l : List ℕ) → length l ≡ 8 → WellFormed (withSensitivities z l)
+module _ (z : Zones) (w : ZonesFormed z) where
+  sensitivities-formed : (l : List ℕ) → length l ≡ 8 → ZonesFormed (withSensitivities z l)
   sensitivities-formed l e = record { sensitivities = e; lawful = w .lawful }
 
-  laid-formed : (l : MpeLayout) → legal l ≡ true → WellFormed (withLayout z l)
+  laid-formed : (l : MpeLayout) → legal l ≡ true → ZonesFormed (withLayout z l)
   laid-formed l e = record { sensitivities = w .sensitivities; lawful = e }
 
-  mono-formed : (zone : MpeZone) (m : Bool) → WellFormed (withMono z zone m)
+  mono-formed : (zone : MpeZone) (m : Bool) → ZonesFormed (withMono z zone m)
   mono-formed Lower m = record { sensitivities = w .sensitivities; lawful = w .lawful }
   mono-formed Upper m = record { sensitivities = w .sensitivities; lawful = w .lawful }
 
-activated-formed : (z : Zones) (zone : MpeZone) → WellFormed z → WellFormed (activated z zone)
+activated-formed : (z : Zones) (zone : MpeZone) → ZonesFormed z → ZonesFormed (activated z zone)
 unfolding activated
 activated-formed z zone w = mono-formed _ (sensitivities-formed z w _ (simp length-set (w .sensitivities))) zone false
 
-activated-if-formed : (members : ℕ) (z : Zones) (zone : MpeZone) → WellFormed z → WellFormed (activatedIf members z zone)
-activated-if-formed members z zone w = of-both WellFormed (ltb 0 members) (activated-formed z zone w) w
+activated-if-formed : (members : ℕ) (z : Zones) (zone : MpeZone) → ZonesFormed z → ZonesFormed (activatedIf members z zone)
+activated-if-formed members z zone w = of-both ZonesFormed (ltb 0 members) (activated-formed z zone w) w
 
-pub laid-out-formed : (z : Zones) (l : MpeLayout) → WellFormed z → legal l ≡ true → WellFormed (laidOut z l)
+pub laid-out-formed : (z : Zones) (l : MpeLayout) → ZonesFormed z → legal l ≡ true → ZonesFormed (zonesSet z l)
 laid-out-formed z l w h =
     activated-if-formed (l .upper) _ Upper (activated-if-formed (l .lower) _ Lower (laid-formed z w l h))
 
@@ -54,33 +54,33 @@ laid-out-formed z l w h =
 pub announced-legal : (l : MpeLayout) (zone : MpeZone) (members : ℕ) → legal l ≡ true → legal (announcedTo l zone members) ≡ true
 announced-legal l zone members h = rw h (mcm-legal l zone members h)
 
-abbrev ToldFormed : Told → Type 0
-ToldFormed t = WellFormed (t .zones)
+abbrev UpdateFormed : ZonesUpdate → Type 0
+UpdateFormed t = ZonesFormed (t .zones)
 
-module _ (z : Zones) (w : WellFormed z) where
-  announced-formed : (zone : MpeZone) (members : ℕ) → ToldFormed (announced z zone members)
+module _ (z : Zones) (w : ZonesFormed z) where
+  announced-formed : (zone : MpeZone) (members : ℕ) → UpdateFormed (announced z zone members)
   unfolding announced
   announced-formed zone members =
-      of-both ToldFormed (ltb 15 members) w
+      of-both UpdateFormed (ltb 15 members) w
       (activated-if-formed members _ zone (laid-formed z w _ (announced-legal (z .layout) zone members (w .lawful))))
 
-  change-formed : (zone : MpeZone) (change : ParameterChange) → ToldFormed (configuredBy z zone change)
+  change-formed : (zone : MpeZone) (change : ParameterChange) → UpdateFormed (configuredBy z zone change)
   change-formed zone (DataEntryMsb members) = announced-formed zone members
   change-formed zone (DataEntryLsb d) = w
   change-formed zone Increment = w
   change-formed zone Decrement = w
 
-  configured-formed : (ro : MpeRole) (change : ParameterChange) → ToldFormed (configuredAs z ro change)
+  configured-formed : (ro : MpeRole) (change : ParameterChange) → UpdateFormed (configuredAs z ro change)
   configured-formed role.NoZone change = w
   configured-formed (role.Manager zone) change = change-formed zone change
   configured-formed (role.Member zone) change = w
 
-  sensed-formed : (ro : MpeRole) (e : ParameterEvent) → ToldFormed (sensed z ro e)
+  sensed-formed : (ro : MpeRole) (e : ParameterEvent) → UpdateFormed (sensed z ro e)
   sensed-formed role.NoZone e = w
   sensed-formed (role.Manager zone) e = sensitivities-formed z w _ (simp length-set (w .sensitivities))
   sensed-formed (role.Member zone) e = sensitivities-formed z w _ (simp length-set (w .sensitivities))
 
-  mode-formed : (e : MpeEvent) (a : ℕ) → WellFormed (modeSet z e a)
+  mode-formed : (e : MpeEvent) (a : ℕ) → ZonesFormed (modeSet z e a)
   mode-formed NoZone a = w
   mode-formed (Zone y m) a = w
   mode-formed (Layout m) a = w
@@ -88,11 +88,11 @@ module _ (z : Zones) (w : WellFormed z) where
   mode-formed (Mode y) a = mono-formed z w y (eqb a 126)
   mode-formed Ignored a = w
 
-  said-formed : (channel : ℕ) (ro : MpeRole) (plain : MpeEvent) (said : Said) (a : ℕ) → ToldFormed (toldAs z channel ro plain said a)
-  said-formed channel ro plain (Configuration change) a = configured-formed (announcing channel) change
-  said-formed channel ro plain (BendSensitivity e) a = sensed-formed ro e
-  said-formed channel ro plain Nothing a = mode-formed plain a
+  decoded-formed : (channel : ℕ) (ro : MpeRole) (plain : MpeEvent) (said : Decoded) (a : ℕ) → UpdateFormed (updatedAs z channel ro plain said a)
+  decoded-formed channel ro plain (Configuration change) a = configured-formed (announcing channel) change
+  decoded-formed channel ro plain (BendSensitivity e) a = sensed-formed ro e
+  decoded-formed channel ro plain Nothing a = mode-formed plain a
 
-  pub told-formed : (e : MaybeEvent) (opcode channel a : ℕ) → WellFormed (messageTold z e opcode channel a .zones)
-  told-formed e opcode channel a =
-      said-formed channel (roleHeld (z .layout) channel) (eventOf z channel (roleHeld (z .layout) channel) opcode a) (saidBy opcode e) a
+  pub update-formed : (e : MaybeEvent) (opcode channel a : ℕ) → ZonesFormed (messageUpdate z e opcode channel a .zones)
+  update-formed e opcode channel a =
+      decoded-formed channel (roleHeld (z .layout) channel) (plainEvent z channel (roleHeld (z .layout) channel) opcode a) (decoded opcode e) a

@@ -1,5 +1,5 @@
 -- Definitions that the contracts cite.
 pub mod Zones
-pub mod Told
+pub mod Update
 pub mod WellFormed
 pub mod Claims

@@ -5,6 +5,6 @@ use lib.ListN.{length}
 use Rattle.mpe_layout.specs.Layout.{legal}
 use Rattle.mpe_zones.specs.declared.Zones.{Zones}
 
-pub record WellFormed (z : Zones) : Type 0 where
+pub record ZonesFormed (z : Zones) : Type 0 where
   pub sensitivities : length (z .sensitivity) ≡ 8
   pub lawful : legal (z .layout) ≡ true

@@ -52,8 +52,8 @@ abbrev pub sensitivityPut : List ℕ → ℕ → ℕ → ℕ → List ℕ
 sensitivityPut l k semitones cents = set (set l k semitones) (k + 1) cents
 
 -- the manager's or the members' of a zone
-abbrev pub sensitivityOf : Zones → MpeZone → Bool → MpeSensitivity
-sensitivityOf z zone manager = sensitivityAt (z .sensitivity) (slotOf zone manager)
+abbrev pub zoneSensitivity : Zones → MpeZone → Bool → MpeSensitivity
+zoneSensitivity z zone manager = sensitivityAt (z .sensitivity) (slotOf zone manager)
 
 -- a zone announced or set with members: sensitivities 2/0 and 48/0, and mode 3
 unfoldable pub activated : Zones → MpeZone → Zones
@@ -69,8 +69,8 @@ abbrev pub activatedIf : ℕ → Zones → MpeZone → Zones
 activatedIf members z zone = if ltb 0 members then activated z zone else z
 
 -- the layout changes, and each zone with members is activated (M1-100 2.2.2, 2.2.3)
-abbrev pub laidOut : Zones → MpeLayout → Zones
-laidOut z l = activatedIf (l .upper) (activatedIf (l .lower) (withLayout z l) Lower) Upper
+abbrev pub zonesSet : Zones → MpeLayout → Zones
+zonesSet z l = activatedIf (l .upper) (activatedIf (l .lower) (withLayout z l) Lower) Upper
 
 -- what the layout held gives; from a new receiver on it is legal, so that nothing declines
 abbrev pub roleIn : Outcome MpeRole → MpeRole

@@ -3,8 +3,8 @@ ghost use mathlib.Core.Path.{_≡_};
 ghost use Prim.Native.Nat.{_<_, _*_, _+_};
 ghost use Rattle.mpe_layout.specs.Layout.{layoutMade, roleFound, lowestFound};
 ghost use Rattle.mpe_layout.specs.Reset.{maskFound};
-ghost use Rattle.mpe_zones.specs.Zones.{withMono, monoOf, slotOf, sensitivityAt, sensitivityPut, sensitivityOf, activated, activatedIf, roleIn, roleHeld, layoutIn, maskIn, isLowest, laidOut};
-ghost use Rattle.mpe_zones.specs.Told.{saidByRpn, saidByParameter, saidByEvent, saidBy, told, announced, configuredBy, configured, announcing, sensitivityApplied, sensedAs, sensed, sensedEvent, inMode4, modeMessage, voiceOnMember, isLowestIn, onMember, eventOf, voiceOf, modeSet, toldAs, messageTold, resetIn, changesBy};
+ghost use Rattle.mpe_zones.specs.Zones.{withMono, monoOf, slotOf, sensitivityAt, sensitivityPut, zoneSensitivity, activated, activatedIf, roleIn, roleHeld, layoutIn, maskIn, isLowest, zonesSet};
+ghost use Rattle.mpe_zones.specs.Update.{decodedRpn, decodedParameter, decodedEvent, decoded, zonesUpdate, announced, configuredBy, configured, announcing, sensitivityApplied, sensedAs, sensed, sensedEvent, inMode4, modeEvent, voiceOnMember, isLowestIn, onMember, plainEvent, voiceOf, modeSet, updatedAs, messageUpdate, resetIn, changesBy};
 use mpe_layout::FoundRole;
 use mpe_layout::LowestMember;
 use mpe_layout::MadeLayout;
@@ -37,7 +37,7 @@ pub enum MpeEvent {
 }
 
 // What a parameter event says to the receiver.
-enum Said {
+enum Decoded {
     Nothing,
     // RPN 6, the MPE Configuration Message.
     Configuration(ParameterChange),
@@ -54,64 +54,64 @@ pub struct Zones {
 }
 
 // The zones after a message, and its event.
-pub struct Told {
+pub struct ZonesUpdate {
     pub zones: Zones,
     pub event: MpeEvent,
 }
 
-fn said_by_rpn(rpn: Rpn, event: ParameterEvent) -> Said
-    ensures { λ r. ⌜ r ≡ saidByRpn rpn event ⌝ }
+fn decode_rpn(rpn: Rpn, event: ParameterEvent) -> Decoded
+    ensures { λ r. ⌜ r ≡ decodedRpn rpn event ⌝ }
 {
     match rpn {
-        Rpn::PitchBendSensitivity => Said::BendSensitivity(event),
-        Rpn::FineTuning => Said::Nothing,
-        Rpn::CoarseTuning => Said::Nothing,
-        Rpn::TuningProgramSelect => Said::Nothing,
-        Rpn::TuningBankSelect => Said::Nothing,
-        Rpn::ModulationDepthRange => Said::Nothing,
-        Rpn::Null => Said::Nothing,
+        Rpn::PitchBendSensitivity => Decoded::BendSensitivity(event),
+        Rpn::FineTuning => Decoded::Nothing,
+        Rpn::CoarseTuning => Decoded::Nothing,
+        Rpn::TuningProgramSelect => Decoded::Nothing,
+        Rpn::TuningBankSelect => Decoded::Nothing,
+        Rpn::ModulationDepthRange => Decoded::Nothing,
+        Rpn::Null => Decoded::Nothing,
         Rpn::Other { msb, lsb } => {
             if msb != 0 {
-                return Said::Nothing;
+                return Decoded::Nothing;
             }
             if lsb != 6 {
-                return Said::Nothing;
+                return Decoded::Nothing;
             }
             let change = event.change;
-            Said::Configuration(change)
+            Decoded::Configuration(change)
         }
     }
 }
 
-fn said_by_parameter(parameter: Parameter, event: ParameterEvent) -> Said
-    ensures { λ r. ⌜ r ≡ saidByParameter parameter event ⌝ }
+fn decode_parameter(parameter: Parameter, event: ParameterEvent) -> Decoded
+    ensures { λ r. ⌜ r ≡ decodedParameter parameter event ⌝ }
 {
     match parameter {
-        Parameter::Registered(rpn) => said_by_rpn(rpn, event),
-        Parameter::NonRegistered { msb: _, lsb: _ } => Said::Nothing,
+        Parameter::Registered(rpn) => decode_rpn(rpn, event),
+        Parameter::NonRegistered { msb: _, lsb: _ } => Decoded::Nothing,
     }
 }
 
-fn said_by_event(parameter: MaybeEvent) -> Said
-    ensures { λ r. ⌜ r ≡ saidByEvent parameter ⌝ }
+fn decode_event(parameter: MaybeEvent) -> Decoded
+    ensures { λ r. ⌜ r ≡ decodedEvent parameter ⌝ }
 {
     match parameter {
-        MaybeEvent::NoEvent => Said::Nothing,
+        MaybeEvent::NoEvent => Decoded::Nothing,
         MaybeEvent::Event(e) => {
             let p = e.parameter;
-            said_by_parameter(p, e)
+            decode_parameter(p, e)
         }
     }
 }
 
 // What an event says with a message of this opcode.
-fn said_by(opcode: u8, parameter: MaybeEvent) -> Said
-    ensures { λ r. ⌜ r ≡ saidBy opcode parameter ⌝ }
+fn decode(opcode: u8, parameter: MaybeEvent) -> Decoded
+    ensures { λ r. ⌜ r ≡ decoded opcode parameter ⌝ }
 {
     if opcode == 0xB {
-        return said_by_event(parameter);
+        return decode_event(parameter);
     }
-    Said::Nothing
+    Decoded::Nothing
 }
 
 fn role_in(found: FoundRole) -> MpeRole
@@ -245,7 +245,7 @@ fn voice_on_member(zone: MpeZone, mono: bool, opcode: u8) -> MpeEvent
 
 // Controllers 126 and 127 set the mode on the lowest member.
 fn mode_event(zone: MpeZone, lowest: bool) -> MpeEvent
-    ensures { λ r. ⌜ r ≡ modeMessage zone lowest ⌝ }
+    ensures { λ r. ⌜ r ≡ modeEvent zone lowest ⌝ }
 {
     if lowest {
         return MpeEvent::Mode { zone };
@@ -389,7 +389,7 @@ impl Zones {
 
     // The layout changes, and each zone with members is activated.
     pub fn lay_out(self, layout: MpeLayout) -> Zones
-        ensures { λ r. ⌜ r ≡ laidOut self layout ⌝ }
+        ensures { λ r. ⌜ r ≡ zonesSet self layout ⌝ }
     {
         let mut laid = self;
         laid.layout = layout;
@@ -399,20 +399,20 @@ impl Zones {
 
     // The manager's or the members' sensitivity of a zone.
     pub fn sensitivity(self, zone: MpeZone, manager: bool) -> MpeSensitivity
-        ensures { λ r. ⌜ r ≡ sensitivityOf self zone manager ⌝ }
+        ensures { λ r. ⌜ r ≡ zoneSensitivity self zone manager ⌝ }
     {
         let l = self.sensitivity;
         read_sensitivity(l, slot(zone, manager))
     }
 
-    fn with_event(self, event: MpeEvent) -> Told
-        ensures { λ r. ⌜ r ≡ told self event ⌝ }
+    fn with_event(self, event: MpeEvent) -> ZonesUpdate
+        ensures { λ r. ⌜ r ≡ zonesUpdate self event ⌝ }
     {
-        Told { zones: self, event }
+        ZonesUpdate { zones: self, event }
     }
 
     // A zone announcement.
-    fn announce(self, zone: MpeZone, members: u8) -> Told
+    fn announce(self, zone: MpeZone, members: u8) -> ZonesUpdate
         ensures { λ r. ⌜ r ≡ announced self zone members ⌝ }
     {
         if 15 < members {
@@ -424,13 +424,13 @@ impl Zones {
         let mut laid = self;
         laid.layout = after;
         let zones = laid.activate_if(members, zone);
-        Told {
+        ZonesUpdate {
             zones,
             event: MpeEvent::Layout { reset: mask },
         }
     }
 
-    fn configure(self, zone: MpeZone, change: ParameterChange) -> Told
+    fn configure(self, zone: MpeZone, change: ParameterChange) -> ZonesUpdate
         ensures { λ r. ⌜ r ≡ configuredBy self zone change ⌝ }
     {
         match change {
@@ -442,7 +442,7 @@ impl Zones {
     }
 
     // An MPE Configuration Message.
-    fn mcm(self, channel: u8, change: ParameterChange) -> Told
+    fn mcm(self, channel: u8, change: ParameterChange) -> ZonesUpdate
         ensures { λ r. ⌜ r ≡ configured self channel change ⌝ }
     {
         let role = announcing_role(channel);
@@ -463,7 +463,7 @@ impl Zones {
 
     // Controllers 126 and 127 on a member.
     fn mode_event_on(self, zone: MpeZone, channel: u8) -> MpeEvent
-        ensures { λ r. ⌜ r ≡ modeMessage zone (isLowestIn self zone channel) ⌝ }
+        ensures { λ r. ⌜ r ≡ modeEvent zone (isLowestIn self zone channel) ⌝ }
     {
         let layout = self.layout;
         mode_event(zone, is_lowest(layout.lowest_member(zone), channel))
@@ -496,7 +496,7 @@ impl Zones {
 
     // A message by its channel's role, where no parameter event decides.
     pub fn event(self, role: MpeRole, opcode: u8, channel: u8, first: u8) -> MpeEvent
-        ensures { λ r. ⌜ r ≡ eventOf self channel role opcode first ⌝ }
+        ensures { λ r. ⌜ r ≡ plainEvent self channel role opcode first ⌝ }
     {
         match role {
             MpeRole::NoZone => MpeEvent::NoZone,
@@ -523,8 +523,8 @@ impl Zones {
     }
 
     // The zones after a message that no parameter event decides.
-    fn plain(self, event: MpeEvent, first: u8) -> Told
-        ensures { λ r. ⌜ r ≡ told (modeSet self event first) event ⌝ }
+    fn plain(self, event: MpeEvent, first: u8) -> ZonesUpdate
+        ensures { λ r. ⌜ r ≡ zonesUpdate (modeSet self event first) event ⌝ }
     {
         match event {
             MpeEvent::NoZone => self.with_event(event),
@@ -546,7 +546,7 @@ impl Zones {
     }
 
     // RPN 0: the manager's or the members' sensitivity in a zone.
-    fn sense(self, role: MpeRole, event: ParameterEvent) -> Told
+    fn sense(self, role: MpeRole, event: ParameterEvent) -> ZonesUpdate
         ensures { λ r. ⌜ r ≡ sensed self role event ⌝ }
     {
         let l = self.sensitivity;
@@ -554,11 +554,11 @@ impl Zones {
         let mut zones = self;
         zones.sensitivity = after;
         let e = sensitivity_event(role);
-        Told { zones, event: e }
+        ZonesUpdate { zones, event: e }
     }
 
     // The zones after a message: by its channel's role and the event that it is where no parameter event decides.
-    pub fn tell(
+    pub fn apply(
         self,
         parameter: MaybeEvent,
         role: MpeRole,
@@ -566,23 +566,23 @@ impl Zones {
         opcode: u8,
         channel: u8,
         first: u8,
-    ) -> Told
-        ensures { λ r. ⌜ r ≡ toldAs self channel role plain (saidBy opcode parameter) first ⌝ }
+    ) -> ZonesUpdate
+        ensures { λ r. ⌜ r ≡ updatedAs self channel role plain (decoded opcode parameter) first ⌝ }
     {
-        let said = said_by(opcode, parameter);
+        let said = decode(opcode, parameter);
         match said {
-            Said::Nothing => self.plain(plain, first),
-            Said::Configuration(change) => self.mcm(channel, change),
-            Said::BendSensitivity(event) => self.sense(role, event),
+            Decoded::Nothing => self.plain(plain, first),
+            Decoded::Configuration(change) => self.mcm(channel, change),
+            Decoded::BendSensitivity(event) => self.sense(role, event),
         }
     }
 
     // The zones after a message whose fields are cut, with the event that its channel's parameters gave for it.
-    pub fn hear(self, parameter: MaybeEvent, opcode: u8, channel: u8, first: u8) -> Told
-        ensures { λ r. ⌜ r ≡ messageTold self parameter opcode channel first ⌝ }
+    pub fn receive(self, parameter: MaybeEvent, opcode: u8, channel: u8, first: u8) -> ZonesUpdate
+        ensures { λ r. ⌜ r ≡ messageUpdate self parameter opcode channel first ⌝ }
     {
         let role = self.role(channel);
         let plain = self.event(role, opcode, channel, first);
-        self.tell(parameter, role, plain, opcode, channel, first)
+        self.apply(parameter, role, plain, opcode, channel, first)
     }
 }

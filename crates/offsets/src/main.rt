@@ -6,7 +6,7 @@ use libc::STDOUT_FILENO;
 use mpe_pitch::unsigned_abs;
 use mpe_receiver::Offset;
 use receiving_end::end::End;
-use receiving_end::end::hear;
+use receiving_end::end::step_all;
 
 // What is known between two reads.
 struct Listening {
@@ -33,7 +33,7 @@ fn listen(l: Listening) -> Listening {
     }
     let n = io::count(got, &text);
     let before = l.end;
-    let after = hear(before, &text[..n]);
+    let after = step_all(before, &text[..n]);
     next.end = after;
     next
 }

@@ -1,10 +1,10 @@
 -- Steps stop at the ends, and every new value has 14 bits.
 -- Assumes nothing.
-use Prim.Native.Nat.{ℕ, _+_, _*_, _-_, _/_, _%_, _^_, _≤_, _<_}
+use Prim.Native.Nat.{ℕ, _-_, _/_, _%_, _^_, _≤_, _<_}
 use mathlib.Core.Bool.{Bool, true, false}
 use native.Mathlib.Omega.{arith}
 use lib.Dec.{ltb, eqb}
-use borrow.Author.Tests.{ltb-true, ltb-false}
+use borrow.Author.Tests.{ltb-true}
 use Rattle.ump.specs.Controller.{rpnParts}
 use Rattle.ump.proofs.Cases.{by-test}
 use Rattle.parameter_event.specs.Apply.{saturatingStep, stepCents, stepUpper, stepNumbered, stepParameter, changedBy, applied}

@@ -3,7 +3,7 @@ use Prim.Native.Nat.{ℕ, _/_, _%_}
 use mathlib.Core.List.{List, [], _∷_}
 use lib.Dec.{ltb}
 use Rattle.ump.specs.Choice.{if_then_else_}
-use Rattle.ump.specs.Outcome.{Outcome, given, outOfRange, allOf, followedBy}
+use Rattle.ump.specs.Outcome.{Outcome, outOfRange, allOf, followedBy}
 use Rattle.ump.specs.Word.{controlChange}
 use Rattle.ump.specs.Controller.{rpnGiven}
 use Rattle.ump.specs.declared.controller.Rpn.{Rpn}

@@ -1,23 +1,21 @@
 -- The parameter receiver of one channel (MIDI 1.0 pp. 17, 18; RP-015; document 01, "The message reaches its channel's parameters").
 use Prim.Native.Nat.{ℕ}
-use mathlib.Core.Bool.{Bool, true, false, _&&_, not}
+use mathlib.Core.Bool.{Bool, true, false, not}
 use lib.Dec.{ltb, eqb}
 use Rattle.ump.specs.Choice.{if_then_else_}
 use Rattle.ump.specs.Outcome.{Outcome, given, outOfRange}
 use Rattle.ump.specs.Word.{opcodeOf, firstOf, secondOf, wordForm}
 use Rattle.ump.specs.Controller.{rpnOf}
-use Rattle.parameter_event.specs.declared.Parameter.{Parameter}
 use Rattle.parameter_event.specs.declared.Parameter.the-variants.{Registered, NonRegistered}
 use Rattle.parameter_event.specs.declared.ParameterChange.{ParameterChange}
 use Rattle.parameter_event.specs.declared.ParameterChange.the-variants.{DataEntryMsb, DataEntryLsb, Increment, Decrement}
-use Rattle.parameter_event.specs.declared.ParameterEvent.{ParameterEvent}
 use Rattle.parameters.specs.declared.Number.{Number}
 use Rattle.parameters.specs.declared.ParameterState.{ParameterState}
 use Rattle.parameters.specs.declared.Selection.{Selection}
 use Rattle.parameters.specs.declared.Selection.the-variants.{Nothing, Selected}
 use Rattle.parameters.specs.declared.MaybeEvent.{MaybeEvent}
 use Rattle.parameters.specs.declared.MaybeEvent.the-variants.{NoEvent, Event}
-use Rattle.parameters.specs.declared.Heard.{Heard}
+use Rattle.parameters.specs.declared.ParameterUpdate.{ParameterUpdate}
 use Rattle.parameters.specs.declared.Reply.{Reply}
 use Rattle.parameters.specs.declared.Reply.the-variants as reply
 
@@ -89,16 +87,16 @@ nrpnSwitched s on =
     else
     record { rpn = s .rpn; nrpn = s .nrpn; «nrpn_last» = s .«nrpn_last»; «rpn_on» = s .«rpn_on»; «nrpn_on» = false }
 
-abbrev pub hearing : ParameterState → MaybeEvent → Heard
-hearing s e = record { state = s; event = e }
+abbrev pub parameterUpdate : ParameterState → MaybeEvent → ParameterUpdate
+parameterUpdate s e = record { state = s; event = e }
 
 -- an event for the selected parameter, or none
 abbrev pub eventFor : Selection → ParameterChange → MaybeEvent
 eventFor Nothing change = NoEvent
 eventFor (Selected p) change = Event (record { parameter = p; change = change })
 
-abbrev pub entered : ParameterState → ParameterChange → Heard
-entered s change = hearing s (eventFor (selectionOf s) change)
+abbrev pub entered : ParameterState → ParameterChange → ParameterUpdate
+entered s change = parameterUpdate s (eventFor (selectionOf s) change)
 
 -- 101 and 100 store the halves of an RPN, 99 and 98 those of an NRPN, and 121 makes both numbers null
 unfoldable pub numberStored : ParameterState → ℕ → ℕ → ParameterState
@@ -111,28 +109,28 @@ numberStored s n v =
     s
 
 -- a control change: 6 and 38 are data entries, 96 and 97 steps
-unfoldable pub controlled : ParameterState → ℕ → ℕ → Heard
+unfoldable pub controlled : ParameterState → ℕ → ℕ → ParameterUpdate
 controlled s n v =
     if eqb n 6 then entered s (DataEntryMsb v) else
     if eqb n 38 then entered s (DataEntryLsb v) else
     if eqb n 96 then entered s Increment else
     if eqb n 97 then entered s Decrement else
-    hearing (numberStored s n v) NoEvent
+    parameterUpdate (numberStored s n v) NoEvent
 
 -- only control changes are heard
-abbrev pub heardOf : ParameterState → ℕ → ℕ → ℕ → Heard
-heardOf s opcode a b = if eqb opcode 0xB then controlled s a b else hearing s NoEvent
+abbrev pub updateByFields : ParameterState → ℕ → ℕ → ℕ → ParameterUpdate
+updateByFields s opcode a b = if eqb opcode 0xB then controlled s a b else parameterUpdate s NoEvent
 
-abbrev pub wordHeard : ParameterState → ℕ → Heard
-wordHeard s w = heardOf s (opcodeOf w) (firstOf w) (secondOf w)
+abbrev pub updateByWord : ParameterState → ℕ → ParameterUpdate
+updateByWord s w = updateByFields s (opcodeOf w) (firstOf w) (secondOf w)
 
 -- what `receive` answers, by document 01's numbers
-abbrev pub replyRead : Reply → Outcome MaybeEvent
-replyRead (reply.Heard e) = given e
-replyRead reply.OutOfRange = outOfRange
+abbrev pub parameterReplyRead : Reply → Outcome MaybeEvent
+parameterReplyRead (reply.Received e) = given e
+parameterReplyRead reply.OutOfRange = outOfRange
 
-abbrev pub receivedReply : ParameterState → ℕ → Outcome MaybeEvent
-receivedReply s w = if wordForm w then given (wordHeard s w .event) else outOfRange
+abbrev pub parameterReply : ParameterState → ℕ → Outcome MaybeEvent
+parameterReply s w = if wordForm w then given (updateByWord s w .event) else outOfRange
 
-abbrev pub receivedState : ParameterState → ℕ → ParameterState
-receivedState s w = if wordForm w then wordHeard s w .state else s
+abbrev pub parameterAfter : ParameterState → ℕ → ParameterState
+parameterAfter s w = if wordForm w then updateByWord s w .state else s

@@ -1,7 +1,7 @@
 // The parameter receiver of one channel (parameters.rs).
 ghost use mathlib.Core.Path.{_≡_};
-ghost use Prim.Native.Nat.{ℕ, _<_, _^_, _-_};
-ghost use Rattle.parameters.specs.State.{newState, selects, selectedRpn, selectedNrpn, selectionOf, nulled, rpnSwitched, nrpnSwitched, entered, numberStored, controlled, heardOf, replyRead, receivedReply, receivedState};
+ghost use Prim.Native.Nat.{_<_, _-_};
+ghost use Rattle.parameters.specs.State.{newState, selects, selectedRpn, selectedNrpn, selectionOf, nulled, rpnSwitched, nrpnSwitched, entered, numberStored, controlled, updateByFields, parameterReplyRead, parameterReply, parameterAfter};
 use parameter_event::Parameter;
 use parameter_event::ParameterChange;
 use parameter_event::ParameterEvent;
@@ -46,14 +46,14 @@ pub enum MaybeEvent {
 }
 
 // What a message gave: the next state, and at most one event.
-pub struct Heard {
+pub struct ParameterUpdate {
     pub state: ParameterState,
     pub event: MaybeEvent,
 }
 
 // What `receive` answers.
 pub enum Reply {
-    Heard(MaybeEvent),
+    Received(MaybeEvent),
     OutOfRange,
 }
 
@@ -147,17 +147,17 @@ impl ParameterState {
     }
 
     // A data entry or a step: an event for the selected parameter.
-    fn entry(self, change: ParameterChange) -> Heard
+    fn entry(self, change: ParameterChange) -> ParameterUpdate
         ensures { λ r. ⌜ r ≡ entered self change ⌝ }
     {
         let s = self.selection();
         let Selection::Selected(parameter) = s else {
-            return Heard {
+            return ParameterUpdate {
                 state: self,
                 event: MaybeEvent::NoEvent,
             };
         };
-        Heard {
+        ParameterUpdate {
             state: self,
             event: MaybeEvent::Event(ParameterEvent { parameter, change }),
         }
@@ -213,7 +213,7 @@ impl ParameterState {
     }
 
     // A control change, by its two data bytes.
-    pub fn control(self, index: u8, value: u8) -> Heard
+    pub fn control(self, index: u8, value: u8) -> ParameterUpdate
         ensures { λ r. ⌜ r ≡ controlled self index value ⌝ }
     {
         if index == 6 {
@@ -229,20 +229,20 @@ impl ParameterState {
             return self.entry(ParameterChange::Decrement);
         }
         let s = self.store(index, value);
-        Heard {
+        ParameterUpdate {
             state: s,
             event: MaybeEvent::NoEvent,
         }
     }
 
     // A message whose fields are cut: only control changes are heard.
-    fn hear(self, opcode: u8, first: u8, second: u8) -> Heard
-        ensures { λ r. ⌜ r ≡ heardOf self opcode first second ⌝ }
+    fn receive_fields(self, opcode: u8, first: u8, second: u8) -> ParameterUpdate
+        ensures { λ r. ⌜ r ≡ updateByFields self opcode first second ⌝ }
     {
         if opcode == 0xB {
             return self.control(first, second);
         }
-        Heard {
+        ParameterUpdate {
             state: self,
             event: MaybeEvent::NoEvent,
         }
@@ -250,16 +250,16 @@ impl ParameterState {
 
     // One message of this receiver's channel: the next state and at most one event. A word that is no message is out of range.
     pub fn receive(self, word: u32) -> Received
-        ensures reply { λ r. ⌜ replyRead (r .reply) ≡ receivedReply self word ⌝ }
-        ensures state { λ r. ⌜ r .state ≡ receivedState self word ⌝ }
+        ensures reply { λ r. ⌜ parameterReplyRead (r .reply) ≡ parameterReply self word ⌝ }
+        ensures state { λ r. ⌜ r .state ≡ parameterAfter self word ⌝ }
     {
         if is_message(word) {
-            let h = self.hear(opcode(word), first_data(word), second_data(word));
+            let h = self.receive_fields(opcode(word), first_data(word), second_data(word));
             let s = h.state;
             let e = h.event;
             return Received {
                 state: s,
-                reply: Reply::Heard(e),
+                reply: Reply::Received(e),
             };
         }
         Received {

@@ -1,13 +1,13 @@
 -- Every list of calls on a new end leaves a well formed one.
 -- Assumes nothing.
 use Prim.Native.Nat.{ℕ}
-use mathlib.Core.Path.{_≡_, refl, _∙_}
+use mathlib.Core.Path.{_∙_}
 use mathlib.Core.List.{List, [], _∷_}
 use lib.ListN.{length, length-set, length-replicate}
 use Rattle.parameters.specs.declared.ParameterState.{ParameterState}
 use Rattle.parameters.specs.State.{newState}
 use Rattle.mpe_receiver.specs.declared.MpeReceiver.{MpeReceiver}
-use Rattle.mpe_receiver.specs.WellFormed.{WellFormed}
+use Rattle.mpe_receiver.specs.WellFormed.{ReceiverFormed}
 use Rattle.mpe_receiver.proofs.WellFormed.{new-formed, received-formed, set-formed}
 use Rattle.byte_reader.specs.declared.Reader.{Reader}
 use Rattle.byte_reader.specs.declared.Read.{Read}
@@ -26,7 +26,7 @@ new-end-formed =
 read-by : (e : End) (r : Reader) → Sound r → EndFormed e → EndFormed (withReader e r)
 read-by e r s f = record { reader-sound = s; channels = f .channels; receiver-formed = f .receiver-formed }
 
-received : (e : End) (r : MpeReceiver) → WellFormed r → EndFormed e → EndFormed (withReceiver e r)
+received : (e : End) (r : MpeReceiver) → ReceiverFormed r → EndFormed e → EndFormed (withReceiver e r)
 received e r w f = record { reader-sound = f .reader-sound; channels = f .channels; receiver-formed = w }
 
 set-at : (e : End) (k : ℕ) (p : ParameterState) → EndFormed e → EndFormed (withParameter e k p)

@@ -8,15 +8,15 @@ use lib.ListN.{length, take, getD}
 use lib.Seq.{take-suc}
 use Rattle.receiving_end.specs.declared.end.End.{End}
 use Rattle.receiving_end.specs.End.{stepEnd}
-use Rattle.receiving_end.specs.Lists.{heard}
+use Rattle.receiving_end.specs.Lists.{afterBytes}
 
-pub heard-append : (e : End) (a b : List ℕ) → heard e (a ++ b) ≡ heard (heard e a) b
-unfolding heard
-heard-append e [] b = refl
-heard-append e (x ∷ a) b = heard-append (stepEnd e x) a b
+pub bytes-after-bytes : (e : End) (a b : List ℕ) → afterBytes e (a ++ b) ≡ afterBytes (afterBytes e a) b
+unfolding afterBytes
+bytes-after-bytes e [] b = refl
+bytes-after-bytes e (x ∷ a) b = bytes-after-bytes (stepEnd e x) a b
 
-pub heard-more : (e : End) {x : End} (l : List ℕ) (i : ℕ) → i < length l → x ≡ heard e (take i l) → stepEnd x (getD l i 0) ≡ heard e (take (i + 1) l)
-unfolding heard
-heard-more e l i h p =
+pub one-byte-more : (e : End) {x : End} (l : List ℕ) (i : ℕ) → i < length l → x ≡ afterBytes e (take i l) → stepEnd x (getD l i 0) ≡ afterBytes e (take (i + 1) l)
+unfolding afterBytes
+one-byte-more e l i h p =
     rw (add-one, take-suc l i 0)
-    (ap (λ y. stepEnd y (getD l i 0)) p ∙ sym (heard-append e (take i l) (getD l i 0 ∷ [])))
+    (ap (λ y. stepEnd y (getD l i 0)) p ∙ sym (bytes-after-bytes e (take i l) (getD l i 0 ∷ [])))

@@ -2,6 +2,6 @@
 pub mod Bytes
 pub mod Messages
 pub mod Parts
-pub mod Tell
+pub mod Receive
 pub mod Numbers
 pub mod Always

@@ -9,24 +9,23 @@ use native.Mathlib.Omega.{arith}
 use lib.Dec.{eqb}
 use Rattle.ump.specs.Choice.{if_then_else_}
 use Rattle.ump.proofs.Auto.{auto}
-use Rattle.byte_reader.specs.declared.ByteClass.{ByteClass}
 use Rattle.byte_reader.specs.declared.ByteClass.the-variants as class
 use Rattle.byte_reader.specs.declared.Reader.{Reader}
 use Rattle.byte_reader.specs.declared.Read.the-variants as read
 use Rattle.byte_reader.specs.declared.ReadStep.{ReadStep}
 use Rattle.receiving_end.specs.declared.end.End.{End}
-use Rattle.byte_reader.specs.Reader.{readerAt, reading, classOf, messageWord, secondData, dataStep, classStep, readStep}
+use Rattle.byte_reader.specs.Reader.{readerAt, reading, classOfByte, messageWord, secondData, dataStep, classStep, readStep}
 use Rattle.receiving_end.specs.End.{withReader, messageStep, answerStep, stepOf, stepEnd}
-use Rattle.receiving_end.specs.Lists.{heard}
+use Rattle.receiving_end.specs.Lists.{afterBytes}
 
 -- a status byte
 begins : (r : Reader) (s : ℕ) → 0x80 ≤ s → s < 0xF0 → readStep r s ≡ reading (readerAt s 0x80) read.Quiet
-unfolding classOf
+unfolding classOfByte
 begins r s h g = search auto
 
 -- a data byte under a running status
 data-read : (s f d : ℕ) → d < 0x80 → readStep (readerAt s f) d ≡ dataStep s f d
-unfolding classOf
+unfolding classOfByte
 data-read s f d h = search auto
 
 of-two : (s f d : ℕ) → (s < 0xC0) ⊎ (0xE0 ≤ s) → 0x80 ≤ s → d < 0x80 → readStep (readerAt s f) d ≡ secondData s f d
@@ -57,22 +56,22 @@ module _ (e : End) (s a b : ℕ) (two : (s < 0xC0) ⊎ (0xE0 ≤ s)) (h : 0x80 �
       by-reading (withReader e (readerAt s a)) b (reading (readerAt s 0x80) (read.Message (messageWord s a b)))
       (of-two s a b two h hb ∙ search auto)
 
-  pub message-heard : heard e (s ∷ a ∷ b ∷ []) ≡ messageStep (withReader e (readerAt s 0x80)) (messageWord s a b) .end
-  unfolding heard
-  message-heard = ap (λ x. stepEnd (stepEnd x a) b) (started e s h g) ∙ ap (λ x. stepEnd x b) begun ∙ completed
+  pub message-read : afterBytes e (s ∷ a ∷ b ∷ []) ≡ messageStep (withReader e (readerAt s 0x80)) (messageWord s a b) .end
+  unfolding afterBytes
+  message-read = ap (λ x. stepEnd (stepEnd x a) b) (started e s h g) ∙ ap (λ x. stepEnd x b) begun ∙ completed
 
 -- and so is one of one data byte
 module _ (e : End) (s a : ℕ) (h : 0xC0 ≤ s) (g : s < 0xE0) (ha : a < 0x80) where
   whole : stepEnd (withReader e (readerAt s 0x80)) a ≡ messageStep (withReader e (readerAt s 0x80)) (messageWord s a 0) .end
   whole = by-reading (withReader e (readerAt s 0x80)) a _ (of-one s 0x80 a h g ha)
 
-  pub short-heard : heard e (s ∷ a ∷ []) ≡ messageStep (withReader e (readerAt s 0x80)) (messageWord s a 0) .end
-  unfolding heard
-  short-heard = ap (λ x. stepEnd x a) (started e s (omega arith) (omega arith)) ∙ whole
+  pub short-read : afterBytes e (s ∷ a ∷ []) ≡ messageStep (withReader e (readerAt s 0x80)) (messageWord s a 0) .end
+  unfolding afterBytes
+  short-read = ap (λ x. stepEnd x a) (started e s (omega arith) (omega arith)) ∙ whole
 
 -- F8 to FF
-system-class : (b : ℕ) → 0xF8 ≤ b → classOf b ≡ (if eqb b 0xF9 then class.Undefined else if eqb b 0xFD then class.Undefined else class.RealTime)
-unfolding classOf
+system-class : (b : ℕ) → 0xF8 ≤ b → classOfByte b ≡ (if eqb b 0xF9 then class.Undefined else if eqb b 0xFD then class.Undefined else class.RealTime)
+unfolding classOfByte
 system-class b h =
     let a : 0x80 ≤ b = omega arith in
     let c : 0xF0 ≤ b = omega arith in
@@ -90,6 +89,6 @@ system e b true u = refl
 system e b false true = refl
 system e b false false = refl
 
-pub system-heard : (e : End) (b : ℕ) → 0xF8 ≤ b → stepEnd e b ≡ e
-system-heard e b h =
+pub system-read : (e : End) (b : ℕ) → 0xF8 ≤ b → stepEnd e b ≡ e
+system-read e b h =
     by-reading e b _ (ap (λ k. classStep (e .reader) k b) (system-class b h)) ∙ system e b (eqb b 0xF9) (eqb b 0xFD)

@@ -1,7 +1,6 @@
 -- The end, and what each call does to it (document 01, "A byte arrives").
 use Prim.Native.Nat.{ℕ}
-use mathlib.Core.Bool.{Bool, true, false}
-use mathlib.Core.List.{List}
+use mathlib.Core.Bool.{Bool, false}
 use lib.ListN.{getD, set, replicate}
 use Rattle.ump.specs.Outcome.{Outcome, given, declined}
 use Rattle.ump.specs.Packet.{packetValue}
@@ -40,13 +39,13 @@ abbrev pub withParameter : End → ℕ → ParameterState → End
 withParameter e k p = record { reader = e .reader; parameters = set (e .parameters) k p; receiver = e .receiver }
 
 -- what stands at no channel
-abbrev pub blank : ParameterState
-blank =
+abbrev pub blankState : ParameterState
+blankState =
     record { rpn = number 0 0; nrpn = number 0 0; «nrpn_last» = false; «rpn_on» = false; «nrpn_on» = false }
 
 -- the parameters of a channel below 16
 abbrev pub parameterAt : End → ℕ → ParameterState
-parameterAt e k = getD (e .parameters) k blank
+parameterAt e k = getD (e .parameters) k blankState
 
 -- what the parts give for a word of the form of a message; the reader makes no other
 abbrev pub eventIn : Outcome MaybeEvent → MaybeEvent
@@ -61,16 +60,16 @@ abbrev pub stepped : End → Reply → Stepped
 stepped e r = record { end = e; reply = r }
 
 -- the event that the channel's parameters give for a word
-abbrev pub eventOf : ParameterState → ℕ → MaybeEvent
-eventOf p w = eventIn (parameter.receivedReply p w)
+abbrev pub parameterEventAt : ParameterState → ℕ → MaybeEvent
+parameterEventAt p w = eventIn (parameter.parameterReply p w)
 
 -- a message reaches its channel's parameters first, and then the receiver with their event
 unfoldable pub messageAt : End → ℕ → ℕ → Stepped
 messageAt e k w =
     stepped
-    (withReceiver (withParameter e k (parameter.receivedState (parameterAt e k) w))
-    (receiver.receivedState (e .receiver) w (eventOf (parameterAt e k) w)))
-    (Message w (mpeIn (receiver.receivedReply (e .receiver) w (eventOf (parameterAt e k) w))))
+    (withReceiver (withParameter e k (parameter.parameterAfter (parameterAt e k) w))
+    (receiver.receiverAfter (e .receiver) w (parameterEventAt (parameterAt e k) w)))
+    (Message w (mpeIn (receiver.receiverReply (e .receiver) w (parameterEventAt (parameterAt e k) w))))
 
 abbrev pub messageStep : End → ℕ → Stepped
 messageStep e w = messageAt e (channelOf w) w

@@ -87,6 +87,6 @@ answers e [] = []
 answers e (c ∷ cs) = answer e c ∷ answers (next e c) cs
 
 -- the end after bytes
-unfoldable pub heard : End → List ℕ → End
-heard e [] = e
-heard e (b ∷ bs) = heard (stepEnd e b) bs
+unfoldable pub afterBytes : End → List ℕ → End
+afterBytes e [] = e
+afterBytes e (b ∷ bs) = afterBytes (stepEnd e b) bs

@@ -2,7 +2,7 @@
 use mathlib.Core.Path.{_≡_}
 use mathlib.Core.List.{List}
 use lib.ListN.{length}
-use Rattle.mpe_receiver.specs.WellFormed.{WellFormed}
+use Rattle.mpe_receiver.specs.WellFormed.{ReceiverFormed}
 use Rattle.receiving_end.specs.declared.end.End.{End}
 use Rattle.byte_reader.specs.Reader.{Sound}
 use Rattle.receiving_end.specs.End.{newEnd}
@@ -11,7 +11,7 @@ use Rattle.receiving_end.specs.Lists.{Call, after}
 pub record EndFormed (e : End) : Type 0 where
   pub reader-sound : Sound (e .reader)
   pub channels : length (e .parameters) ≡ 16
-  pub receiver-formed : WellFormed (e .receiver)
+  pub receiver-formed : ReceiverFormed (e .receiver)
 
 -- whatever was called on a new end, its layout is legal and nothing is out of place
 abbrev pub AlwaysFormed : Type 0

@@ -2,13 +2,13 @@
 ghost use mathlib.Core.Path.{_≡_};
 ghost use Prim.Native.Nat.{_<_};
 ghost use Rattle.ump.specs.Packet.{packetValue};
-ghost use Rattle.parameters.specs.State.{replyRead as parameterReplyRead};
-ghost use Rattle.mpe_receiver.specs.Receive.{replyRead as receiverReplyRead};
+ghost use Rattle.parameters.specs.State.{parameterReplyRead};
+ghost use Rattle.mpe_receiver.specs.Receive.{receiverReplyRead};
 ghost use Rattle.parameters.specs.State.{selectionOf};
 ghost use Rattle.mpe_layout.specs.Reset.{maskFound};
 ghost use Rattle.mpe_receiver.specs.Receive.{setReply};
 ghost use Rattle.mpe_receiver.specs.Read.{modeOf, sensitivityOf, bendAt, pressureAt, brightnessAt, offsetOf, offsetRead};
-ghost use Rattle.receiving_end.specs.Lists.{heard};
+ghost use Rattle.receiving_end.specs.Lists.{afterBytes};
 ghost use Rattle.receiving_end.specs.End.{newEnd, parameterAt, eventIn, mpeIn, stepped, messageAt, messageStep, answerStep, stepReply, stepEnd, withParameter, laidOutEnd, rpnSwitchedAt, nrpnSwitchedAt};
 use byte_reader::Read;
 use byte_reader::Reader;
@@ -56,7 +56,7 @@ fn event_in(reply: parameters::Reply) -> MaybeEvent
     ensures { λ r. ⌜ r ≡ eventIn (parameterReplyRead reply) ⌝ }
 {
     match reply {
-        parameters::Reply::Heard(e) => e,
+        parameters::Reply::Received(e) => e,
         parameters::Reply::OutOfRange => MaybeEvent::NoEvent,
     }
 }
@@ -65,7 +65,7 @@ fn mpe_in(reply: mpe_receiver::Reply) -> MpeEvent
     ensures { λ r. ⌜ r ≡ mpeIn (receiverReplyRead reply) ⌝ }
 {
     match reply {
-        mpe_receiver::Reply::Heard(e) => e,
+        mpe_receiver::Reply::Received(e) => e,
         mpe_receiver::Reply::OutOfRange => MpeEvent::Ignored,
     }
 }
@@ -77,7 +77,7 @@ fn replying(end: End, reply: Reply) -> Stepped
     Stepped { end, reply }
 }
 
-// A message of channel k: its parameters hear it first, and the receiver gets their event.
+// A message of channel k: its parameters step_all it first, and the receiver gets their event.
 fn message_at(end: End, k: usize, word: u32) -> Stepped
     requires { ⌜ k < 16 ⌝ }
     ensures { λ r. ⌜ r ≡ messageAt end k word ⌝ }
@@ -138,8 +138,8 @@ pub fn byte(end: &mut End, b: u8) -> Reply
 }
 
 // The end after all of these bytes.
-pub fn hear(end: End, bytes: &[u8]) -> End
-    ensures { λ r. ⌜ r ≡ heard end (now (bytes .entry)) ⌝ }
+pub fn step_all(end: End, bytes: &[u8]) -> End
+    ensures { λ r. ⌜ r ≡ afterBytes end (now (bytes .entry)) ⌝ }
 {
     let mut e = end;
     let mut i: usize = 0;

@@ -3,21 +3,21 @@ use crate::arguments;
 use crate::arguments::Item;
 use crate::line::Line;
 use mpe_allocator::MpeNoteAllocator;
-use mpe_allocator::NoteOn;
+use mpe_allocator::NoteReply;
 use mpe_layout::MpeLayout;
 
 // The allocator after an item, and the answer.
-pub(crate) struct AllocatorTold {
+pub(crate) struct AllocatorAnswered {
     pub(crate) allocator: MpeNoteAllocator,
     pub(crate) line: Line,
 }
 
 // What `note_on` answers.
-fn channel(reply: NoteOn) -> Line {
+fn channel(reply: NoteReply) -> Line {
     match reply {
-        NoteOn::Channel(channel) => Line::one(channel as u32),
-        NoteOn::OutOfRange => Line::out_of_range(),
-        NoteOn::NoMembers => Line::none(),
+        NoteReply::Channel(channel) => Line::one(channel as u32),
+        NoteReply::OutOfRange => Line::out_of_range(),
+        NoteReply::NoMembers => Line::none(),
     }
 }
 
@@ -33,7 +33,7 @@ fn reading(allocator: MpeNoteAllocator) -> Line {
 }
 
 // Answers item 61.
-fn note_on(allocator: MpeNoteAllocator, item: Item) -> AllocatorTold {
+fn note_on(allocator: MpeNoteAllocator, item: Item) -> AllocatorAnswered {
     let layout = MpeLayout {
         lower: item.a1,
         upper: item.a2,
@@ -41,7 +41,7 @@ fn note_on(allocator: MpeNoteAllocator, item: Item) -> AllocatorTold {
     let noted = allocator.note_on(layout, arguments::zone(item.a3), item.a4);
     let next = noted.allocator;
     let r = noted.reply;
-    AllocatorTold {
+    AllocatorAnswered {
         allocator: next,
         line: channel(r),
     }
@@ -62,18 +62,18 @@ fn changed(allocator: MpeNoteAllocator, operation: u8, argument: u8) -> MpeNoteA
 }
 
 // Answers the item, on an allocator.
-pub(crate) fn answer(allocator: MpeNoteAllocator, item: Item) -> AllocatorTold {
+pub(crate) fn answer(allocator: MpeNoteAllocator, item: Item) -> AllocatorAnswered {
     let operation = item.operation;
     if operation == 0x61 {
         return note_on(allocator, item);
     }
     if operation == 0x65 {
-        return AllocatorTold {
+        return AllocatorAnswered {
             allocator,
             line: reading(allocator),
         };
     }
-    AllocatorTold {
+    AllocatorAnswered {
         allocator: changed(allocator, operation, item.a1),
         line: Line::new(),
     }

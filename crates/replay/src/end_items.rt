@@ -12,7 +12,7 @@ use receiving_end::end::Stepped;
 use receiving_end::end::step;
 
 // The end after an item, and the answer.
-pub(crate) struct EndTold {
+pub(crate) struct EndAnswered {
     pub(crate) end: End,
     pub(crate) line: Line,
 }
@@ -28,21 +28,21 @@ fn reply(reply: Reply) -> Line {
 }
 
 // The end after a byte, and the answer.
-fn stepped(stepped: Stepped) -> EndTold {
+fn stepped(stepped: Stepped) -> EndAnswered {
     let end = stepped.end;
     let r = stepped.reply;
-    EndTold {
+    EndAnswered {
         end,
         line: reply(r),
     }
 }
 
 // Answers item 03.
-fn set_layout(end: End, lower: u8, upper: u8) -> EndTold {
+fn set_layout(end: End, lower: u8, upper: u8) -> EndAnswered {
     let set = end.set_layout(MpeLayout { lower, upper });
     let next = set.end;
     let r = set.reply;
-    EndTold {
+    EndAnswered {
         end: next,
         line: receiver_items::mask(r),
     }
@@ -94,7 +94,7 @@ fn changed(end: End, operation: u8, c: u8, on: bool) -> End {
 }
 
 // Answers the item, on an end.
-pub(crate) fn answer(end: End, item: Item) -> EndTold {
+pub(crate) fn answer(end: End, item: Item) -> EndAnswered {
     let operation = item.operation;
     let first = item.a1;
     let second = item.a2;
@@ -108,18 +108,18 @@ pub(crate) fn answer(end: End, item: Item) -> EndTold {
         return set_layout(end, first, second);
     }
     if operation == 0x06 {
-        return EndTold {
+        return EndAnswered {
             end,
             line: zones(end),
         };
     }
     if operation == 0x07 {
-        return EndTold {
+        return EndAnswered {
             end,
             line: channel(end, first),
         };
     }
-    EndTold {
+    EndAnswered {
         end: changed(end, operation, first, second != 0),
         line: Line::new(),
     }

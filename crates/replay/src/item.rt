@@ -2,7 +2,7 @@
 use crate::arguments;
 use crate::tokens::Place;
 use crate::tokens::Token;
-ghost use Prim.Native.Nat.{_<_, _≤_};
+ghost use Prim.Native.Nat.{_<_};
 ghost use lib.ListN.{length as long};
 
 // An item that is being read: how many of its bytes are there, and where its text goes on.

@@ -14,7 +14,7 @@ use parameters::Reply;
 use parameters::Selection;
 
 // The parameter state after an item, and the answer.
-pub(crate) struct ParameterTold {
+pub(crate) struct ParameterAnswered {
     pub(crate) state: ParameterState,
     pub(crate) line: Line,
 }
@@ -55,7 +55,7 @@ fn event(event: MaybeEvent) -> Line {
 // What `receive` answers.
 fn reply(reply: Reply) -> Line {
     match reply {
-        Reply::Heard(e) => event(e),
+        Reply::Received(e) => event(e),
         Reply::OutOfRange => Line::out_of_range(),
     }
 }
@@ -126,11 +126,11 @@ fn changed(state: ParameterState, operation: u8, on: bool) -> ParameterState {
 }
 
 // Answers item 35.
-fn receive(state: ParameterState, word: u32) -> ParameterTold {
+fn receive(state: ParameterState, word: u32) -> ParameterAnswered {
     let received = state.receive(word);
     let next = received.state;
     let r = received.reply;
-    ParameterTold {
+    ParameterAnswered {
         state: next,
         line: reply(r),
     }
@@ -147,18 +147,18 @@ fn reading_of(state: ParameterState) -> Line {
 }
 
 // Answers an item of 34 to 39, on a parameter state.
-pub(crate) fn state_answer(state: ParameterState, item: Item) -> ParameterTold {
+pub(crate) fn state_answer(state: ParameterState, item: Item) -> ParameterAnswered {
     let operation = item.operation;
     if operation == 0x35 {
         return receive(state, arguments::four(item.a1, item.a2, item.a3, item.a4));
     }
     if operation == 0x39 {
-        return ParameterTold {
+        return ParameterAnswered {
             state,
             line: reading_of(state),
         };
     }
-    ParameterTold {
+    ParameterAnswered {
         state: changed(state, operation, item.a1 != 0),
         line: Line::new(),
     }

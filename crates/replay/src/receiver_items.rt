@@ -15,7 +15,7 @@ use parameter_event::ParameterEvent;
 use parameters::MaybeEvent;
 
 // The receiver after an item, and the answer.
-pub(crate) struct ReceiverTold {
+pub(crate) struct ReceiverAnswered {
     pub(crate) receiver: MpeReceiver,
     pub(crate) line: Line,
 }
@@ -37,7 +37,7 @@ pub(crate) fn event(line: Line, event: MpeEvent) -> Line {
 // What `receive` answers.
 fn reply(reply: Reply) -> Line {
     match reply {
-        Reply::Heard(e) => event(Line::new(), e),
+        Reply::Received(e) => event(Line::new(), e),
         Reply::OutOfRange => Line::out_of_range(),
     }
 }
@@ -108,33 +108,33 @@ fn event_given(item: Item) -> MaybeEvent {
 }
 
 // Answers item 41.
-fn receive(receiver: MpeReceiver, item: Item) -> ReceiverTold {
+fn receive(receiver: MpeReceiver, item: Item) -> ReceiverAnswered {
     let word = arguments::four(item.a1, item.a2, item.a3, item.a4);
     let received = receiver.receive(word, event_given(item));
     let next = received.receiver;
     let r = received.reply;
-    ReceiverTold {
+    ReceiverAnswered {
         receiver: next,
         line: reply(r),
     }
 }
 
 // Answers item 42.
-fn set_layout(receiver: MpeReceiver, lower: u8, upper: u8) -> ReceiverTold {
+fn set_layout(receiver: MpeReceiver, lower: u8, upper: u8) -> ReceiverAnswered {
     let set = receiver.set_layout(MpeLayout { lower, upper });
     let next = set.receiver;
     let r = set.reply;
-    ReceiverTold {
+    ReceiverAnswered {
         receiver: next,
         line: mask(r),
     }
 }
 
 // Answers the item, on a receiver.
-pub(crate) fn answer(receiver: MpeReceiver, item: Item) -> ReceiverTold {
+pub(crate) fn answer(receiver: MpeReceiver, item: Item) -> ReceiverAnswered {
     let operation = item.operation;
     if operation == 0x40 {
-        return ReceiverTold {
+        return ReceiverAnswered {
             receiver: MpeReceiver::new(),
             line: Line::new(),
         };
@@ -146,12 +146,12 @@ pub(crate) fn answer(receiver: MpeReceiver, item: Item) -> ReceiverTold {
         return set_layout(receiver, item.a1, item.a2);
     }
     if operation == 0x43 {
-        return ReceiverTold {
+        return ReceiverAnswered {
             receiver,
             line: zones_of(receiver),
         };
     }
-    ReceiverTold {
+    ReceiverAnswered {
         receiver,
         line: channel_of(receiver, item.a1),
     }

@@ -4,7 +4,7 @@ use crate::out::Out;
 use mpe_layout::MpeLayout;
 use mpe_sender::Written;
 use receiving_end::end::End;
-use receiving_end::end::hear;
+use receiving_end::end::step_all;
 use restatement::restatement_bytes;
 use restatement::restatement_words;
 use settings::Settings;
@@ -97,9 +97,9 @@ pub(crate) fn answer(out: Out, item: &[u8; 80], buffer: &mut [u8; 4096]) -> Out 
 }
 
 // The end after the first n of these bytes.
-fn hear_first(end: End, bytes: &[u8], n: usize) -> End {
+fn receive_first(end: End, bytes: &[u8], n: usize) -> End {
     if n <= bytes.len() {
-        return hear(end, &bytes[..n]);
+        return step_all(end, &bytes[..n]);
     }
     end
 }
@@ -107,14 +107,14 @@ fn hear_first(end: End, bytes: &[u8], n: usize) -> End {
 // The end after so many bytes of a restatement; none of them where it was refused.
 fn after(end: End, written: Written, bytes: &[u8]) -> End {
     match written {
-        Written::Count(n) => hear_first(end, bytes, n),
+        Written::Count(n) => receive_first(end, bytes, n),
         Written::OutOfRange => end,
         Written::TooSmall { needed, got } => end,
     }
 }
 
 // The end after item 72.
-pub(crate) fn heard(end: End, item: &[u8; 80]) -> End {
+pub(crate) fn received(end: End, item: &[u8; 80]) -> End {
     let mut bytes = [BYTE_BEFORE; 1024];
     let written = restatement_bytes(settings(item), &mut bytes);
     after(end, written, &bytes)

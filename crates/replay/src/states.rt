@@ -64,9 +64,9 @@ impl States {
     // Makes the call of an item on the end.
     fn answer_end(self, item: Item) -> Answered {
         let end = self.end;
-        let told = end_items::answer(end, item);
-        let next = told.end;
-        let line = told.line;
+        let answered = end_items::answer(end, item);
+        let next = answered.end;
+        let line = answered.line;
         let mut states = self;
         states.end = next;
         Answered { states, line }
@@ -75,9 +75,9 @@ impl States {
     // Makes the call of an item on the parameter state.
     fn answer_parameters(self, item: Item) -> Answered {
         let parameters = self.parameters;
-        let told = parameter_items::state_answer(parameters, item);
-        let next = told.state;
-        let line = told.line;
+        let answered = parameter_items::state_answer(parameters, item);
+        let next = answered.state;
+        let line = answered.line;
         let mut states = self;
         states.parameters = next;
         Answered { states, line }
@@ -86,9 +86,9 @@ impl States {
     // Makes the call of an item on the receiver.
     fn answer_receiver(self, item: Item) -> Answered {
         let receiver = self.receiver;
-        let told = receiver_items::answer(receiver, item);
-        let next = told.receiver;
-        let line = told.line;
+        let answered = receiver_items::answer(receiver, item);
+        let next = answered.receiver;
+        let line = answered.line;
         let mut states = self;
         states.receiver = next;
         Answered { states, line }
@@ -97,9 +97,9 @@ impl States {
     // Makes the call of an item on the allocator.
     fn answer_allocator(self, item: Item) -> Answered {
         let allocator = self.allocator;
-        let told = allocator_items::answer(allocator, item);
-        let next = told.allocator;
-        let line = told.line;
+        let answered = allocator_items::answer(allocator, item);
+        let next = answered.allocator;
+        let line = answered.line;
         let mut states = self;
         states.allocator = next;
         Answered { states, line }
@@ -108,7 +108,7 @@ impl States {
     // Gives the end a restatement.
     fn answer_restated(self, bytes: &[u8; 80]) -> Answered {
         let end = self.end;
-        let next = restatement_items::heard(end, bytes);
+        let next = restatement_items::received(end, bytes);
         let mut states = self;
         states.end = next;
         Answered {

@@ -14,15 +14,14 @@ use Rattle.ump.specs.Outcome.{given, allOf}
 use Rattle.ump.specs.Packet.{packetValue}
 use Rattle.ump.specs.Word.{controlChange, twoDataWord, oneDataWord, bendWord}
 use Rattle.ump.proofs.Cases.{by-test}
-use Rattle.mpe_layout.specs.Layout.{legal, membersOf, managerOf, lowestOf}
-use Rattle.mpe_layout.specs.declared.MpeLayout.{MpeLayout}
+use Rattle.mpe_layout.specs.Layout.{legal, managerOf, lowestOf}
 use Rattle.mpe_layout.specs.declared.MpeZone.{MpeZone}
 use Rattle.mpe_layout.proofs.Legal.{members-le}
 use Rattle.mpe_sender.specs.Writers.{controlWord, mcmMessages, modeOn, modeMessage, groupSize}
 use Rattle.mpe_sender.specs.Zone.{zoneGroups, zoneWords, fillReply, zoneReply, filled}
 use Rattle.mpe_sender.proofs.Groups.{groups-length}
 use Rattle.mpe_sender.proofs.Zones.{lowest-lt}
-use Rattle.settings.specs.Settings.{zoneOf, membersIn, isMono, bendOf, pressureOf, brightnessOf, allowed}
+use Rattle.settings.specs.Settings.{zoneOf, membersIn, isMono, bendOn, pressureOn, brightnessOn, allowed}
 use Rattle.settings.specs.Messages.{announcement, sensitivities, modes, controlsOn, wordsIn, countIn}
 use Rattle.settings.specs.declared.Settings.{Settings}
 use Rattle.settings.proofs.Allowed.{allowed-legal, allowed-zone, allowed-channel}
@@ -33,15 +32,15 @@ control-made k controller value h a v = rw (le-ltb 0x7F controller a, le-ltb 0x7
 
 -- F, of one channel
 pub controls-made : (s : Settings) (k : ℕ) → allowed s ≡ true → k < 16
-    → wordsIn (allOf (bendWord 0 (packetValue k) (bendOf s k) ∷ controlChange k 74 (brightnessOf s k) ∷ oneDataWord 0xD 0 (packetValue k) (pressureOf s k) ∷ []))
+    → wordsIn (allOf (bendWord 0 (packetValue k) (bendOn s k) ∷ controlChange k 74 (brightnessOn s k) ∷ oneDataWord 0xD 0 (packetValue k) (pressureOn s k) ∷ []))
     ≡ controlsOn s k
 unfolding bendWord oneDataWord
 controls-made s k h l =
     let f = allowed-channel s h k l in
     rw (
-      control-made k 74 (brightnessOf s k) l (omega arith) (f .2),
-      le-ltb 0x3FFF (bendOf s k) (f .0),
-      le-ltb 0x7F (pressureOf s k) (f .1),
+      control-made k 74 (brightnessOn s k) l (omega arith) (f .2),
+      le-ltb 0x3FFF (bendOn s k) (f .0),
+      le-ltb 0x7F (pressureOn s k) (f .1),
       mod-eq-of-lt l,
     )
 

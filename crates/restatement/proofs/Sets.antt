@@ -1,11 +1,11 @@
 -- Runs of stores, one after the other, and the messages of each channel in such runs.
 -- Assumes nothing.
 use Prim.Native.Nat.{ℕ, zero, suc, _+_, _*_, _-_, _≤_}
-use mathlib.Core.Path.{_≡_, ap, ap₂, sym, _∙_}
+use mathlib.Core.Path.{_≡_, ap, sym, _∙_}
 use mathlib.Core.List.{List, [], _∷_, _++_, append-assoc, append-nil}
 use native.Mathlib.Omega.{arith}
 use native.Mathlib.Numerals.{add-one}
-use native.Mathlib.Nat.{le-refl, suc-mul, zero-add}
+use native.Mathlib.Nat.{le-refl, zero-add}
 use lib.ListN.{length, take, drop, set, length-append, length-drop}
 use lib.Seq.{sets, sets-eq, take-at, take-all, drop-drop, drop-length}
 use borrow.Rule.Slice.PartMut.{midOf, putMid, post-is}

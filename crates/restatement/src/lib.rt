@@ -2,13 +2,13 @@
 ghost use mathlib.Core.Path.{_≡_};
 ghost use mathlib.Core.Bool.{true};
 ghost use mathlib.Core.List.{[], _∷_};
-ghost use Prim.Native.Nat.{ℕ, _+_, _*_, _<_, _≤_, _%_, _/_, _^_};
+ghost use Prim.Native.Nat.{ℕ, _+_, _*_, _<_, _≤_, _^_};
 ghost use lib.ListN.{length, take};
 ghost use lib.Seq.{sets};
 ghost use Rattle.ump.specs.Outcome.{given, allOf};
 ghost use Rattle.ump.specs.Word.{bendWord, oneDataWord, controlChange, messageMade, twoMade, threeMade};
 ghost use Rattle.ump.specs.Packet.{packetValue};
-ghost use Rattle.mpe_layout.specs.Layout.{legal, membersOf};
+ghost use Rattle.mpe_layout.specs.Layout.{legal};
 ghost use Rattle.mpe_sender.specs.Zone.{filled, writtenRead};
 ghost use Rattle.settings.specs.Settings.{zoneAllowed, channelAllowed, andChannel, channelsAllowed, allowed};
 ghost use Rattle.settings.specs.Messages.{resets, announcements, sensitivities, modes, deselections, controls, messages, bytesOf, bytes, restatement, oneIfAny, messageCount, byteCount, restatedReply, wordsIn, countIn};

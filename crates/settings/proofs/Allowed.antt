@@ -14,7 +14,7 @@ use Rattle.mpe_layout.specs.Layout.{legal, ofLegal}
 use Rattle.mpe_layout.specs.declared.MpeZone.{MpeZone}
 use Rattle.mpe_layout.specs.declared.MpeZone.the-variants.{Lower, Upper}
 use Rattle.mpe_layout.specs.declared.MpeLayout.{MpeLayout}
-use Rattle.settings.specs.Settings.{zoneOf, membersIn, bendOf, pressureOf, brightnessOf, zoneAllowed, channelAllowed, channelsAllowed, allowed}
+use Rattle.settings.specs.Settings.{zoneOf, membersIn, bendOn, pressureOn, brightnessOn, zoneAllowed, channelAllowed, channelsAllowed, allowed}
 use Rattle.settings.specs.declared.ZoneSettings.{ZoneSettings}
 use Rattle.settings.specs.declared.Settings.{Settings}
 
@@ -55,13 +55,13 @@ channel-limits bend pressure brightness h =
     (ltb-false 0x3FFF bend (p .0), ltb-false 127 pressure (q .0), ltb-false 127 brightness (r .0))
 
 channels-limits : (s : Settings) (n : ℕ) → channelsAllowed s n ≡ true → (k : ℕ) → k < n
-    → (bendOf s k ≤ 0x3FFF) × (pressureOf s k ≤ 127) × (brightnessOf s k ≤ 127)
+    → (bendOn s k ≤ 0x3FFF) × (pressureOn s k ≤ 127) × (brightnessOn s k ≤ 127)
 unfolding channelsAllowed
 channels-limits s zero h k b = absurd (not-suc-le-zero b)
 channels-limits s (suc n) h k b =
     let p = both (channelsAllowed s n) _ h in
     ⊎-elim
-    (λ (e : k ≡ n). rw e (channel-limits (bendOf s n) (pressureOf s n) (brightnessOf s n) (p .1)))
+    (λ (e : k ≡ n). rw e (channel-limits (bendOn s n) (pressureOn s n) (brightnessOn s n) (p .1)))
     (λ (l : k < n). channels-limits s n (p .0) k l)
     (eq-or-lt-of-le (le-of-suc-le-suc b))
 
@@ -105,5 +105,5 @@ allowed-zone s h Lower some = zone-limits (membersIn s Lower) (s .lower) (parts 
 allowed-zone s h Upper some = zone-limits (membersIn s Upper) (s .upper) (parts s h .is-upper) some
 
 pub allowed-channel : (s : Settings) → allowed s ≡ true → (k : ℕ) → k < 16
-    → (bendOf s k ≤ 0x3FFF) × (pressureOf s k ≤ 127) × (brightnessOf s k ≤ 127)
+    → (bendOn s k ≤ 0x3FFF) × (pressureOn s k ≤ 127) × (brightnessOn s k ≤ 127)
 allowed-channel s h k b = channels-limits s 16 (parts s h .is-channels) k b

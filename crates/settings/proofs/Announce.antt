@@ -20,25 +20,25 @@ use Rattle.mpe_layout.specs.Layout.{layoutOf, legal, managerOf, leftBeside, wit
 use Rattle.mpe_layout.proofs.Legal.{Bounds, sides, legal-bounds}
 use Rattle.mpe_zones.specs.declared.Zones.{Zones}
 use Rattle.mpe_zones.specs.Zones.{withLayout, activated, activatedIf, announcedTo}
-use Rattle.mpe_zones.specs.Told.{announced}
+use Rattle.mpe_zones.specs.Update.{announced}
 use Rattle.mpe_receiver.specs.declared.MpeReceiver.{MpeReceiver}
 use Rattle.mpe_receiver.specs.State.{zonesOf}
-use Rattle.mpe_receiver.specs.Receive.{stored, toldTo, heardOf}
+use Rattle.mpe_receiver.specs.Receive.{stored, withUpdate, receivedByFields}
 use Rattle.mpe_sender.proofs.Groups.{manager-lt}
 use Rattle.receiving_end.specs.declared.end.End.{End}
 use Rattle.byte_reader.specs.Reader.{readerAt}
 use Rattle.receiving_end.specs.End.{withReader, withReceiver, withParameter, parameterAt}
-use Rattle.receiving_end.specs.Lists.{heard}
+use Rattle.receiving_end.specs.Lists.{afterBytes}
 use Rattle.receiving_end.proofs.Parts.{statusOf}
-use Rattle.receiving_end.proofs.Numbers.{entryOf, entry-heard}
+use Rattle.receiving_end.proofs.Numbers.{entryOf, entry-read}
 use Rattle.settings.specs.Messages.{announcement, announcements, bytes}
 use Rattle.settings.proofs.Bytes.{group-bytes}
-use Rattle.settings.proofs.Told.{told-all, told-append, heard-formed}
+use Rattle.settings.proofs.Received.{received-all, received-append, bytes-formed}
 use Rattle.settings.proofs.Stage.{cleared-with, zonesAt, Stage, stage-at}
 
 -- RPN 6 with a data entry on a manager announces its zone
-announces : (r : MpeReceiver) (zone : MpeZone) (v : ℕ) → heardOf r (Event (entryOf 6 v)) 0xB (managerOf zone) 6 v ≡ toldTo r (announced (zonesOf r) zone v)
-unfolding heardOf stored rpnNumbered
+announces : (r : MpeReceiver) (zone : MpeZone) (v : ℕ) → receivedByFields r (Event (entryOf 6 v)) 0xB (managerOf zone) 6 v ≡ withUpdate r (announced (zonesOf r) zone v)
+unfolding receivedByFields stored rpnNumbered
 announces r Lower v = refl
 announces r Upper v = refl
 
@@ -55,16 +55,16 @@ announced-zones z zone v h b =
     rw (le-ltb 15 v b) (ap (λ l. activatedIf v (withLayout z l) zone) (lawful-to (z .layout) zone v h))
 
 -- one announcement on the way
-pub announced-stage : {z : Zones} (e : End) (zone : MpeZone) (v : ℕ) → v ≤ 15 → Stage z e → Stage (announcedZones z zone v) (told-all e (announcement zone v))
+pub announced-stage : {z : Zones} (e : End) (zone : MpeZone) (v : ℕ) → v ≤ 15 → Stage z e → Stage (announcedZones z zone v) (received-all e (announcement zone v))
 announced-stage e zone v b s =
     let k = managerOf zone in
     let hk = manager-lt zone in
     let f = s .formed in
     let c = s .cleared k hk in
-    stage-at e (told-all e (announcement zone v)) k (readerAt (statusOf 0xB k) 0x80) (withRpn (parameterAt e k) (number 0 6)) (toldTo (e .receiver) (announced (zonesOf (e .receiver)) zone v) .receiver) s
-    (heard-formed e (bytes (announcement zone v)) f)
-    (ap (heard e) (group-bytes k 6 v hk (omega arith) (omega arith))
-    ∙ entry-heard e k 6 v hk (omega arith) (omega arith) (f .channels) (c .rpn-on) refl
+    stage-at e (received-all e (announcement zone v)) k (readerAt (statusOf 0xB k) 0x80) (withRpn (parameterAt e k) (number 0 6)) (withUpdate (e .receiver) (announced (zonesOf (e .receiver)) zone v) .receiver) s
+    (bytes-formed e (bytes (announcement zone v)) f)
+    (ap (afterBytes e) (group-bytes k 6 v hk (omega arith) (omega arith))
+    ∙ entry-read e k 6 v hk (omega arith) (omega arith) (f .channels) (c .rpn-on) refl
     ∙ ap (λ h. withReceiver (withParameter (withReader e (readerAt (statusOf 0xB k) 0x80)) k (withRpn (parameterAt e k) (number 0 6))) (h .receiver)) (announces (e .receiver) zone v))
     (cleared-with (parameterAt e k) (number 0 6) c)
     (announced-zones (zonesOf (e .receiver)) zone v (f .receiver-formed .lawful) b ∙ ap (λ y. announcedZones y zone v) (s .zones))
@@ -122,7 +122,7 @@ restated-layout l h =
     rw (le-ltb 15 (l .lower) (b .in-lower), le-ltb 15 (l .upper) (b .in-upper), left-kept (l .upper) (l .lower) b)
 
 -- all four
-pub announcements-stage : {z : Zones} (e : End) (l : MpeLayout) → legal l ≡ true → Stage z e → Stage (defaultZones l) (told-all e (announcements l))
+pub announcements-stage : {z : Zones} (e : End) (l : MpeLayout) → legal l ≡ true → Stage z e → Stage (defaultZones l) (received-all e (announcements l))
 announcements-stage {z} e l h s =
     let b = legal-bounds l h in
     let s1 = announced-stage e Lower 7 (omega arith) s in
@@ -132,13 +132,13 @@ announcements-stage {z} e l h s =
     let known : announcedZones (announcedZones z Lower 7) Upper 7 ≡ defaultZones (layoutOf 7 7) =
     ap (λ y. announcedZones (announcedZones y Lower 7) Upper 7) (sym (s .zones))
     ∙ both-active (zonesOf (e .receiver)) (e .receiver .sensitivity) (s .formed .receiver-formed .sensitivities) in
-    let told : told-all e (announcements l) ≡ told-all (told-all (told-all (told-all e (announcement Lower 7)) (announcement Upper 7)) (announcement Lower (l .lower))) (announcement Upper (l .upper)) =
-    told-append e (announcement Lower 7 ++ announcement Upper 7 ++ announcement Lower (l .lower)) (announcement Upper (l .upper))
-    ∙ ap (λ x. told-all x (announcement Upper (l .upper)))
-    (told-append e (announcement Lower 7 ++ announcement Upper 7) (announcement Lower (l .lower))
-    ∙ ap (λ x. told-all x (announcement Lower (l .lower))) (told-append e (announcement Lower 7) (announcement Upper 7))) in
-    subst (λ x. Stage (defaultZones l) x) (sym told)
-    (subst (λ y. Stage y (told-all (told-all (told-all (told-all e (announcement Lower 7)) (announcement Upper 7)) (announcement Lower (l .lower))) (announcement Upper (l .upper))))
+    let endAfter : received-all e (announcements l) ≡ received-all (received-all (received-all (received-all e (announcement Lower 7)) (announcement Upper 7)) (announcement Lower (l .lower))) (announcement Upper (l .upper)) =
+    received-append e (announcement Lower 7 ++ announcement Upper 7 ++ announcement Lower (l .lower)) (announcement Upper (l .upper))
+    ∙ ap (λ x. received-all x (announcement Upper (l .upper)))
+    (received-append e (announcement Lower 7 ++ announcement Upper 7) (announcement Lower (l .lower))
+    ∙ ap (λ x. received-all x (announcement Lower (l .lower))) (received-append e (announcement Lower 7) (announcement Upper 7))) in
+    subst (λ x. Stage (defaultZones l) x) (sym endAfter)
+    (subst (λ y. Stage y (received-all (received-all (received-all (received-all e (announcement Lower 7)) (announcement Upper 7)) (announcement Lower (l .lower))) (announcement Upper (l .upper))))
     (ap (λ y. announcedZones (announcedZones y Lower (l .lower)) Upper (l .upper)) known
     ∙ ap (λ y. announcedZones y Upper (l .upper)) (defaults-stay (layoutOf 7 7) Lower (l .lower))
     ∙ defaults-stay (withMcm (layoutOf 7 7) Lower (l .lower)) Upper (l .upper)

@@ -19,7 +19,7 @@ use Rattle.mpe_layout.proofs.Legal.{members-le, both-le}
 use Rattle.mpe_sender.specs.Zone.{channelAt, semitonesAt, zoneGroups, groupAt, groups, InRange}
 use Rattle.mpe_sender.proofs.Groups.{manager-lt, groups-length, channel-lt, semitones-le}
 use Rattle.mpe_sender.proofs.Zones.{members-in, lowest-lt}
-use Rattle.settings.specs.Settings.{zoneOf, membersIn, isMono, bendOf, pressureOf, brightnessOf, allowed}
+use Rattle.settings.specs.Settings.{zoneOf, membersIn, isMono, bendOn, pressureOn, brightnessOn, allowed}
 use Rattle.settings.specs.Messages.{eachChannel, resetOn, resets, announcement, announcements, sensitivities, modes, deselectionOn, deselections, controlsOn, controls, messages, bytesOf, bytes, restatement, oneIfAny, messageCount, byteCount, CountsHold}
 use Rattle.settings.specs.declared.Settings.{Settings}
 use Rattle.settings.proofs.Allowed.{allowed-legal, allowed-zone, allowed-channel}
@@ -171,9 +171,9 @@ controls-bytes s h =
     each-bytes (controlsOn s) 8 16
     (λ k l.
     let f = allowed-channel s h k l in
-    let bend = ap length (bend-bytes k (bendOf s k) l (omega (arith, f .0))) in
-    let pressure = ap length (pressure-bytes k (pressureOf s k) l (omega (arith, f .1))) in
-    simp length-append (omega (arith, bend, ap length (control-bytes k 74 (brightnessOf s k) l (omega arith) (omega (arith, f .2))), pressure)))
+    let bend = ap length (bend-bytes k (bendOn s k) l (omega (arith, f .0))) in
+    let pressure = ap length (pressure-bytes k (pressureOn s k) l (omega (arith, f .1))) in
+    simp length-append (omega (arith, bend, ap length (control-bytes k 74 (brightnessOn s k) l (omega arith) (omega (arith, f .2))), pressure)))
 
 -- three bytes each, less one for each pressure
 pub byte-count : (s : Settings) → allowed s ≡ true → length (restatement s) ≡ byteCount (s .layout)

@@ -16,9 +16,9 @@ use Rattle.mpe_layout.specs.declared.MpeZone.{MpeZone}
 use Rattle.mpe_layout.specs.declared.MpeZone.the-variants.{Lower, Upper}
 use Rattle.mpe_zones.specs.Zones.{monoOf, slotOf, sensitivityAt}
 use Rattle.receiving_end.specs.declared.end.End.{End}
-use Rattle.receiving_end.specs.End.{newEnd, blank, parameterAt, stepEnd}
-use Rattle.receiving_end.specs.Lists.{Call, mode, sensitivity, laidOut, counted, ranged, after, answers, heard}
-use Rattle.receiving_end.proofs.Messages.{system-heard}
+use Rattle.receiving_end.specs.End.{newEnd, blankState, parameterAt, stepEnd}
+use Rattle.receiving_end.specs.Lists.{Call, mode, sensitivity, laidOut, counted, ranged, after, answers, afterBytes}
+use Rattle.receiving_end.proofs.Messages.{system-read}
 use Rattle.receiving_end.proofs.Always.{new-end-formed, always-formed}
 use Rattle.settings.specs.declared.Settings.{Settings}
 use Rattle.settings.specs.Settings.{zoneOf, membersIn, isMono, allowed}
@@ -29,14 +29,14 @@ use Rattle.settings.proofs.Clear.{AsNew}
 use Rattle.settings.proofs.Settle.{Controlled}
 use Rattle.settings.proofs.Restated.{heldBy, shownZones, restated, same-end}
 
--- calls that bring bytes are heard as these bytes
-arrives-heard : (e : End) {bytes : List ℕ} {calls : List Call} → Arrives bytes calls → after e calls ≡ heard e bytes
-unfolding after heard
-arrives-heard e whole = refl
-arrives-heard e (by-value {b} a) = arrives-heard (stepEnd e b) a
-arrives-heard e (lent {b} a) = arrives-heard (stepEnd e b) a
-arrives-heard e (between-by-value {b} h a) = rw (system-heard e b h) (arrives-heard e a)
-arrives-heard e (between-lent {b} h a) = rw (system-heard e b h) (arrives-heard e a)
+-- calls that bring bytes are afterBytes as these bytes
+arrives-received : (e : End) {bytes : List ℕ} {calls : List Call} → Arrives bytes calls → after e calls ≡ afterBytes e bytes
+unfolding after afterBytes
+arrives-received e whole = refl
+arrives-received e (by-value {b} a) = arrives-received (stepEnd e b) a
+arrives-received e (lent {b} a) = arrives-received (stepEnd e b) a
+arrives-received e (between-by-value {b} h a) = rw (system-read e b h) (arrives-received e a)
+arrives-received e (between-lent {b} h a) = rw (system-read e b h) (arrives-received e a)
 
 -- the switches of each channel, as they read
 switches : (e : End) → SwitchesAsNew e → (k : ℕ) → k < 16 → AsNew (parameterAt e k)
@@ -95,23 +95,23 @@ module _ (s : Settings) (h : allowed s ≡ true) where
       }
 
   new-switches : (k : ℕ) → k < 16 → AsNew (parameterAt newEnd k)
-  new-switches k hk = subst AsNew (sym (getD-replicate 16 k newState blank hk)) (record { rpn-on = refl; nrpn-off = refl })
+  new-switches k hk = subst AsNew (sym (getD-replicate 16 k newState blankState hk)) (record { rpn-on = refl; nrpn-off = refl })
 
   -- after any history with the switches as new
   abbrev After : List Call → End
-  After before = heard (after newEnd before) (restatement s)
+  After before = afterBytes (after newEnd before) (restatement s)
 
   after-history : (before : List Call) → SwitchesAsNew (after newEnd before) → Controlled s h (shownZones s) 16 (After before)
   after-history before n = restated s h (after newEnd before) (always-formed before) (switches (after newEnd before) n)
 
-  alone : Controlled s h (shownZones s) 16 (heard newEnd (restatement s))
+  alone : Controlled s h (shownZones s) 16 (afterBytes newEnd (restatement s))
   alone = restated s h newEnd new-end-formed new-switches
 
   pub demand-holds : Demand s (restatement s)
   demand-holds =
       record {
         shown = λ before calls n a.
-            subst (Shown s) (sym (arrives-heard (after newEnd before) a)) (shown-by (After before) (after-history before n));
+            subst (Shown s) (sym (arrives-received (after newEnd before) a)) (shown-by (After before) (after-history before n));
         answered-alike = λ before calls later n a.
-            ap (λ e. answers e later) (arrives-heard (after newEnd before) a ∙ same-end s h (After before) (heard newEnd (restatement s)) (after-history before n) alone);
+            ap (λ e. answers e later) (arrives-received (after newEnd before) a ∙ same-end s h (After before) (afterBytes newEnd (restatement s)) (after-history before n) alone);
       }

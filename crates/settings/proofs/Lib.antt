@@ -2,7 +2,7 @@
 pub mod Allowed
 pub mod Bytes
 pub mod Counts
-pub mod Told
+pub mod Received
 pub mod Stage
 pub mod Clear
 pub mod Announce

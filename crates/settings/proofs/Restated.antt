@@ -18,14 +18,14 @@ use Rattle.mpe_zones.specs.Zones.{withMono}
 use Rattle.mpe_receiver.specs.declared.MpeReceiver.{MpeReceiver}
 use Rattle.mpe_receiver.specs.State.{withBends, withPressures, withBrightnesses, zonesOf, withZones}
 use Rattle.receiving_end.specs.declared.end.End.{End}
-use Rattle.receiving_end.specs.End.{blank, parameterAt}
+use Rattle.receiving_end.specs.End.{blankState, parameterAt}
 use Rattle.receiving_end.specs.WellFormed.{EndFormed}
 use Rattle.settings.specs.declared.Settings.{Settings}
-use Rattle.settings.specs.Settings.{zoneOf, membersIn, isMono, bendOf, pressureOf, brightnessOf, allowed}
+use Rattle.settings.specs.Settings.{zoneOf, membersIn, isMono, bendOn, pressureOn, brightnessOn, allowed}
 use Rattle.settings.specs.Messages.{resets, announcements, sensitivities, modes, deselections, controls, messages}
 use Rattle.settings.specs.Demand.{semitonesOf, defaultFor, shownSensitivity}
 use Rattle.settings.proofs.Allowed.{allowed-legal}
-use Rattle.settings.proofs.Told.{told-all, told-append}
+use Rattle.settings.proofs.Received.{received-all, received-append}
 use Rattle.settings.proofs.Stage.{zonesAt, Stage}
 use Rattle.settings.proofs.Clear.{AsNew, reset-stage}
 use Rattle.settings.proofs.Announce.{semitones, defaultZones, announcements-stage}
@@ -79,8 +79,8 @@ zones-shown : (s : Settings) → modedFor s Upper (modedFor s Lower (sensedFor s
 zones-shown s = zones-by s (eqb (s .layout .lower) 0) (eqb (s .layout .upper) 0)
 
 module _ (s : Settings) (h : allowed s ≡ true) where
-  grow : (P : End → Type 0) (e : End) (a b : List ℕ) → P (told-all (told-all e a) b) → P (told-all e (a ++ b))
-  grow P e a b p = subst P (sym (told-append e a b)) p
+  grow : (P : End → Type 0) (e : End) (a b : List ℕ) → P (received-all (received-all e a) b) → P (received-all e (a ++ b))
+  grow P e a b p = subst P (sym (received-append e a b)) p
 
   abbrev toZones : List ℕ
   toZones = resets ++ announcements (s .layout)
@@ -92,10 +92,10 @@ module _ (s : Settings) (h : allowed s ≡ true) where
   toModes = toSensitivities ++ modes s Lower ++ modes s Upper
 
   module _ (e : End) (f : EndFormed e) (new : (k : ℕ) → k < 16 → AsNew (parameterAt e k)) where
-    zones-stage : Stage (defaultZones (s .layout)) (told-all e toZones)
+    zones-stage : Stage (defaultZones (s .layout)) (received-all e toZones)
     zones-stage =
         grow (Stage (defaultZones (s .layout))) e resets (announcements (s .layout))
-        (announcements-stage (told-all e resets) (s .layout) (allowed-legal s h) (reset-stage e f new))
+        (announcements-stage (received-all e resets) (s .layout) (allowed-legal s h) (reset-stage e f new))
 
     abbrev z1 : Zones
     z1 = sensedFor s Lower (defaultZones (s .layout))
@@ -115,25 +115,25 @@ module _ (s : Settings) (h : allowed s ≡ true) where
     l3 : z3 .layout ≡ s .layout
     l3 = moded-layout s Lower z2 ∙ l2
 
-    sensed-stage : Stage z2 (told-all e toSensitivities)
+    sensed-stage : Stage z2 (received-all e toSensitivities)
     sensed-stage =
         grow (Stage z2) e (toZones ++ sensitivities s Lower) (sensitivities s Upper)
-        (sensitivities-stage s Upper (told-all e (toZones ++ sensitivities s Lower)) h l1
-        (grow (Stage z1) e toZones (sensitivities s Lower) (sensitivities-stage s Lower (told-all e toZones) h refl zones-stage)))
+        (sensitivities-stage s Upper (received-all e (toZones ++ sensitivities s Lower)) h l1
+        (grow (Stage z1) e toZones (sensitivities s Lower) (sensitivities-stage s Lower (received-all e toZones) h refl zones-stage)))
 
-    moded-stage : Stage (shownZones s) (told-all e toModes)
+    moded-stage : Stage (shownZones s) (received-all e toModes)
     moded-stage =
-        subst (λ z. Stage z (told-all e toModes)) (zones-shown s)
+        subst (λ z. Stage z (received-all e toModes)) (zones-shown s)
         (grow (Stage (modedFor s Upper z3)) e (toSensitivities ++ modes s Lower) (modes s Upper)
-        (modes-stage s Upper (told-all e (toSensitivities ++ modes s Lower)) h l3
-        (grow (Stage z3) e toSensitivities (modes s Lower) (modes-stage s Lower (told-all e toSensitivities) h l2 sensed-stage))))
+        (modes-stage s Upper (received-all e (toSensitivities ++ modes s Lower)) h l3
+        (grow (Stage z3) e toSensitivities (modes s Lower) (modes-stage s Lower (received-all e toSensitivities) h l2 sensed-stage))))
 
-    pub restated : Controlled s h (shownZones s) 16 (told-all e (messages s))
+    pub restated : Controlled s h (shownZones s) 16 (received-all e (messages s))
     unfolding messages
     restated =
         grow (Controlled s h (shownZones s) 16) e (toModes ++ deselections) (controls s)
-        (controlled-stage s h (shownZones s) (told-all e (toModes ++ deselections))
-        (grow (Settling (shownZones s) 16) e toModes deselections (settled-stage (shownZones s) (told-all e toModes) moded-stage)))
+        (controlled-stage s h (shownZones s) (received-all e (toModes ++ deselections))
+        (grow (Settling (shownZones s) 16) e toModes deselections (settled-stage (shownZones s) (received-all e toModes) moded-stage)))
 
   -- two such ends are equal
   same-list : (l m : List ℕ) (g : ℕ → ℕ) → length l ≡ 16 → length m ≡ 16
@@ -146,7 +146,7 @@ module _ (s : Settings) (h : allowed s ≡ true) where
     same-parameters =
         let p = a .settling .stage .formed .channels in
         let q = b .settling .stage .formed .channels in
-        ext-getD blank (e .parameters) (x .parameters) (p ∙ sym q)
+        ext-getD blankState (e .parameters) (x .parameters) (p ∙ sym q)
         (λ i hi. let k : i < 16 = omega arith in a .settling .settled-below i k ∙ sym (b .settling .settled-below i k))
 
     abbrev with : Zones → List ℕ → List ℕ → List ℕ → MpeReceiver
@@ -159,9 +159,9 @@ module _ (s : Settings) (h : allowed s ≡ true) where
         let r = e .receiver in
         let t = x .receiver in
         ap (λ y. with y (r .«pitch_bend») (r .pressure) (r .brightness)) (a .settling .stage .zones ∙ sym (b .settling .stage .zones))
-        ∙ ap (λ y. with (zonesOf t) y (r .pressure) (r .brightness)) (same-list (r .«pitch_bend») (t .«pitch_bend») (bendOf s) (f .bends) (g .bends) (a .bends-below) (b .bends-below))
-        ∙ ap (λ y. with (zonesOf t) (t .«pitch_bend») y (r .brightness)) (same-list (r .pressure) (t .pressure) (pressureOf s) (f .pressures) (g .pressures) (a .pressures-below) (b .pressures-below))
-        ∙ ap (λ y. with (zonesOf t) (t .«pitch_bend») (t .pressure) y) (same-list (r .brightness) (t .brightness) (brightnessOf s) (f .brightnesses) (g .brightnesses) (a .brightnesses-below) (b .brightnesses-below))
+        ∙ ap (λ y. with (zonesOf t) y (r .pressure) (r .brightness)) (same-list (r .«pitch_bend») (t .«pitch_bend») (bendOn s) (f .bends) (g .bends) (a .bends-below) (b .bends-below))
+        ∙ ap (λ y. with (zonesOf t) (t .«pitch_bend») y (r .brightness)) (same-list (r .pressure) (t .pressure) (pressureOn s) (f .pressures) (g .pressures) (a .pressures-below) (b .pressures-below))
+        ∙ ap (λ y. with (zonesOf t) (t .«pitch_bend») (t .pressure) y) (same-list (r .brightness) (t .brightness) (brightnessOn s) (f .brightnesses) (g .brightnesses) (a .brightnesses-below) (b .brightnesses-below))
 
     pub same-end : e ≡ x
     same-end =

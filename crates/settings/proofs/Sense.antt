@@ -15,7 +15,7 @@ use Rattle.ump.specs.Controller.{rpnNumbered}
 use Rattle.ump.proofs.Cases.{by-test}
 use Rattle.parameters.specs.declared.MaybeEvent.the-variants.{Event, NoEvent}
 use Rattle.parameters.specs.declared.ParameterState.{ParameterState}
-use Rattle.parameters.specs.State.{number, withRpn, numberStored, controlled, hearing}
+use Rattle.parameters.specs.State.{number, withRpn, numberStored, controlled, parameterUpdate}
 use Rattle.parameters.specs.State as parameter
 use Rattle.mpe_layout.specs.declared.MpeZone.{MpeZone}
 use Rattle.mpe_layout.specs.declared.MpeLayout.{MpeLayout}
@@ -24,12 +24,12 @@ use Rattle.mpe_layout.proofs.Legal.{members-le}
 use Rattle.mpe_layout.proofs.Roles.{manager-role, member-role, lowest-role}
 use Rattle.mpe_zones.specs.declared.Zones.{Zones}
 use Rattle.mpe_zones.specs.Zones.{withSensitivities, withMono, slotOf, sensitivityPut, roleHeld, isLowest}
-use Rattle.mpe_zones.specs.Told.{sensitivityApplied, onMember, eventOf, modeMessage, modeSet}
-use Rattle.mpe_zones.specs.Told as zones
+use Rattle.mpe_zones.specs.Update.{sensitivityApplied, onMember, plainEvent, modeEvent, modeSet}
+use Rattle.mpe_zones.specs.Update as zones
 use Rattle.mpe_zones.proofs.Kept.{applied-to, roleFor, rpnZero}
 use Rattle.mpe_receiver.specs.declared.MpeReceiver.{MpeReceiver}
 use Rattle.mpe_receiver.specs.State.{zonesOf}
-use Rattle.mpe_receiver.specs.Receive.{stored, heardOf}
+use Rattle.mpe_receiver.specs.Receive.{stored, receivedByFields}
 use Rattle.mpe_sender.specs.Writers.{controlWord, sensitivityGroup}
 use Rattle.mpe_sender.specs.Zone.{zoneGroups, channelAt, semitonesAt, groupAt, groups, zoneWords}
 use Rattle.mpe_sender.proofs.Groups.{manager-lt}
@@ -37,15 +37,15 @@ use Rattle.mpe_sender.proofs.Zones.{members-in, lowest-lt}
 use Rattle.receiving_end.specs.declared.end.End.{End}
 use Rattle.byte_reader.specs.Reader.{readerAt}
 use Rattle.receiving_end.specs.End.{withReader, withReceiver, withParameter, parameterAt}
-use Rattle.receiving_end.specs.Lists.{heard}
+use Rattle.receiving_end.specs.Lists.{afterBytes}
 use Rattle.receiving_end.proofs.Parts.{statusOf}
-use Rattle.receiving_end.proofs.Numbers.{entryOf, entry-heard}
+use Rattle.receiving_end.proofs.Numbers.{entryOf, entry-read}
 use Rattle.settings.specs.declared.Settings.{Settings}
 use Rattle.settings.specs.Settings.{zoneOf, membersIn, isMono, allowed}
 use Rattle.settings.specs.Messages.{bytes, sensitivities, modes}
 use Rattle.settings.proofs.Allowed.{allowed-legal, allowed-zone}
 use Rattle.settings.proofs.Bytes.{group-bytes}
-use Rattle.settings.proofs.Told.{told-all, told-append, control-all, heard-formed}
+use Rattle.settings.proofs.Received.{received-all, received-append, control-all, bytes-formed}
 use Rattle.settings.proofs.Stage.{cleared-with, Stage, stage-at}
 
 held : (l : MpeLayout) (k : ℕ) → legal l ≡ true → k < 16 → roleHeld l k ≡ roleOf l k
@@ -66,8 +66,8 @@ put-entry z v zone manager h =
 
 entry-acts : (r : MpeReceiver) (k v : ℕ) (zone : MpeZone) (manager : Bool) → legal (r .layout) ≡ true → k < 16 → v < 128
     → roleOf (r .layout) k ≡ roleFor zone manager
-    → zonesOf (heardOf r (Event (entryOf 0 v)) 0xB k 6 v .receiver) ≡ withSensitivities (zonesOf r) (sensitivityPut (r .sensitivity) (slotOf zone manager) v 0)
-unfolding heardOf stored rpnNumbered
+    → zonesOf (receivedByFields r (Event (entryOf 0 v)) 0xB k 6 v .receiver) ≡ withSensitivities (zonesOf r) (sensitivityPut (r .sensitivity) (slotOf zone manager) v 0)
+unfolding receivedByFields stored rpnNumbered
 entry-acts r k v zone manager h hk hv role =
     ap (λ ro. zones.sensed (zonesOf r) ro (entryOf 0 v) .zones) (held (r .layout) k h hk ∙ role)
     ∙ put-entry (zonesOf r) v zone manager hv
@@ -78,14 +78,14 @@ sensed z zone manager v = withSensitivities z (sensitivityPut (z .sensitivity) (
 
 -- one group on the way
 group-stage : {z : Zones} (e : End) (k v : ℕ) (zone : MpeZone) (manager : Bool) → k < 16 → v < 128
-    → roleOf (z .layout) k ≡ roleFor zone manager → Stage z e → Stage (sensed z zone manager v) (told-all e (sensitivityGroup k v))
+    → roleOf (z .layout) k ≡ roleFor zone manager → Stage z e → Stage (sensed z zone manager v) (received-all e (sensitivityGroup k v))
 group-stage e k v zone manager hk hv role s =
     let f = s .formed in
     let c = s .cleared k hk in
     let r = e .receiver in
-    stage-at e (told-all e (sensitivityGroup k v)) k (readerAt (statusOf 0xB k) 0x80) (withRpn (parameterAt e k) (number 0 0)) (heardOf r (Event (entryOf 0 v)) 0xB k 6 v .receiver) s
-    (heard-formed e (bytes (sensitivityGroup k v)) f)
-    (ap (heard e) (group-bytes k 0 v hk (omega arith) hv) ∙ entry-heard e k 0 v hk (omega arith) hv (f .channels) (c .rpn-on) refl)
+    stage-at e (received-all e (sensitivityGroup k v)) k (readerAt (statusOf 0xB k) 0x80) (withRpn (parameterAt e k) (number 0 0)) (receivedByFields r (Event (entryOf 0 v)) 0xB k 6 v .receiver) s
+    (bytes-formed e (bytes (sensitivityGroup k v)) f)
+    (ap (afterBytes e) (group-bytes k 0 v hk (omega arith) hv) ∙ entry-read e k 0 v hk (omega arith) hv (f .channels) (c .rpn-on) refl)
     (cleared-with (parameterAt e k) (number 0 0) c)
     (entry-acts r k v zone manager (f .receiver-formed .lawful) hk hv (ap (λ z. roleOf (z .layout) k) (s .zones) ∙ role)
     ∙ ap (λ z. sensed z zone manager v) (s .zones))
@@ -129,8 +129,8 @@ module _ (z : Zones) (zone : MpeZone) (a b : ℕ) (h : legal (z .layout) ≡ tru
       let m : suc n - 1 ≡ n = omega arith in
       rw (e, m)
 
-  groups-stage : (n : ℕ) (e : End) → n ≤ membersOf (z .layout) zone + 1 → Stage z e → Stage (sensedBy z zone a b n) (told-all e (first n))
-  unfolding groups bytes heard sensedBy channelAt semitonesAt
+  groups-stage : (n : ℕ) (e : End) → n ≤ membersOf (z .layout) zone + 1 → Stage z e → Stage (sensedBy z zone a b n) (received-all e (first n))
+  unfolding groups bytes afterBytes sensedBy channelAt semitonesAt
   groups-stage zero e le s = s
   groups-stage (suc zero) e le s =
       group-stage e (managerOf zone) a zone true (manager-lt zone) ha (manager-role (z .layout) zone h some) s
@@ -138,9 +138,9 @@ module _ (z : Zones) (zone : MpeZone) (a b : ℕ) (h : legal (z .layout) ≡ tru
       let m = groups-stage (suc n) e (omega arith) s in
       let k : n < membersOf (z .layout) zone = omega arith in
       subst (λ x. Stage (sensed (sensed z zone true a) zone false b) x)
-      (sym (told-append e (first (suc n)) (at (suc n)) ∙ ap (told-all (told-all e (first (suc n)))) (at-member n)))
-      (subst (λ y. Stage y (told-all (told-all e (first (suc n))) (sensitivityGroup (lowestOf (z .layout) zone + n) b))) (one-member z zone a b n)
-      (group-stage (told-all e (first (suc n))) (lowestOf (z .layout) zone + n) b zone false (omega (arith, members-in (z .layout) zone h)) hb
+      (sym (received-append e (first (suc n)) (at (suc n)) ∙ ap (received-all (received-all e (first (suc n)))) (at-member n)))
+      (subst (λ y. Stage y (received-all (received-all e (first (suc n))) (sensitivityGroup (lowestOf (z .layout) zone + n) b))) (one-member z zone a b n)
+      (group-stage (received-all e (first (suc n))) (lowestOf (z .layout) zone + n) b zone false (omega (arith, members-in (z .layout) zone h)) hb
       (ap (λ l. roleOf l (lowestOf (z .layout) zone + n)) (sensed-layout z zone a b (suc n)) ∙ member-role (z .layout) zone n h k)
       m))
 
@@ -149,9 +149,9 @@ module _ (z : Zones) (zone : MpeZone) (a b : ℕ) (h : legal (z .layout) ≡ tru
   all-sensed zero p = absurd (omega arith)
   all-sensed (suc m) p = rw add-one
 
-  words-stage : (e : End) → Stage z e → Stage (sensed (sensed z zone true a) zone false b) (told-all e (zoneWords (z .layout) zone a b))
+  words-stage : (e : End) → Stage z e → Stage (sensed (sensed z zone true a) zone false b) (received-all e (zoneWords (z .layout) zone a b))
   words-stage e s =
-      subst (λ y. Stage y (told-all e (zoneWords (z .layout) zone a b))) (all-sensed (membersOf (z .layout) zone) some)
+      subst (λ y. Stage y (received-all e (zoneWords (z .layout) zone a b))) (all-sensed (membersOf (z .layout) zone) some)
       (groups-stage (membersOf (z .layout) zone + 1) e (omega arith) s)
 
 -- C. the sensitivities of a zone, if it has members
@@ -160,8 +160,8 @@ sensedFor s zone z =
     if eqb (membersIn s zone) 0 then z else sensed (sensed z zone true (zoneOf s zone .manager)) zone false (zoneOf s zone .member)
 
 pub sensitivities-stage : {z : Zones} (s : Settings) (zone : MpeZone) (e : End) → allowed s ≡ true → z .layout ≡ s .layout → Stage z e
-    → Stage (sensedFor s zone z) (told-all e (sensitivities s zone))
-unfolding sensitivities bytes heard
+    → Stage (sensedFor s zone z) (received-all e (sensitivities s zone))
+unfolding sensitivities bytes afterBytes
 sensitivities-stage {z} s zone e h same st =
     by-test (eqb (membersIn s zone) 0)
     (λ t. rw t st)
@@ -170,7 +170,7 @@ sensitivities-stage {z} s zone e h same st =
     let limits = allowed-zone s h zone some in
     let a = zoneOf s zone .manager in
     let b = zoneOf s zone .member in
-    subst (λ l. Stage (sensed (sensed z zone true a) zone false b) (told-all e (zoneWords l zone a b))) same
+    subst (λ l. Stage (sensed (sensed z zone true a) zone false b) (received-all e (zoneWords l zone a b))) same
     (words-stage z zone a b
     (subst (λ l. legal l ≡ true) (sym same) (allowed-legal s h))
     (subst (λ l. 0 < membersOf l zone) (sym same) some)
@@ -194,41 +194,41 @@ is-lowest l zone h some =
     rw (h, n, eq-eqb (lowestOf l zone) (lowestOf l zone) refl)
 
 mode-acts : (r : MpeReceiver) (zone : MpeZone) (mono : Bool) (v : ℕ) → legal (r .layout) ≡ true → 0 < membersOf (r .layout) zone
-    → zonesOf (heardOf r NoEvent 0xB (lowestOf (r .layout) zone) (modeController mono) v .receiver) ≡ withMono (zonesOf r) zone mono
-unfolding heardOf stored onMember
+    → zonesOf (receivedByFields r NoEvent 0xB (lowestOf (r .layout) zone) (modeController mono) v .receiver) ≡ withMono (zonesOf r) zone mono
+unfolding receivedByFields stored onMember
 mode-acts r zone true v h some =
     let k = lowestOf (r .layout) zone in
     let z = zonesOf r in
-    ap (λ ro. modeSet z (eventOf z k ro 0xB 126) 126) (held (r .layout) k h (lowest-lt (r .layout) zone h some) ∙ lowest-role (r .layout) zone h some)
-    ∙ ap (λ t. modeSet z (modeMessage zone t) 126) (is-lowest (r .layout) zone h some)
+    ap (λ ro. modeSet z (plainEvent z k ro 0xB 126) 126) (held (r .layout) k h (lowest-lt (r .layout) zone h some) ∙ lowest-role (r .layout) zone h some)
+    ∙ ap (λ t. modeSet z (modeEvent zone t) 126) (is-lowest (r .layout) zone h some)
 mode-acts r zone false v h some =
     let k = lowestOf (r .layout) zone in
     let z = zonesOf r in
-    ap (λ ro. modeSet z (eventOf z k ro 0xB 127) 127) (held (r .layout) k h (lowest-lt (r .layout) zone h some) ∙ lowest-role (r .layout) zone h some)
-    ∙ ap (λ t. modeSet z (modeMessage zone t) 127) (is-lowest (r .layout) zone h some)
+    ap (λ ro. modeSet z (plainEvent z k ro 0xB 127) 127) (held (r .layout) k h (lowest-lt (r .layout) zone h some) ∙ lowest-role (r .layout) zone h some)
+    ∙ ap (λ t. modeSet z (modeEvent zone t) 127) (is-lowest (r .layout) zone h some)
 
-stays : (p : ParameterState) (mono : Bool) (v : ℕ) → parameter.heardOf p 0xB (modeController mono) v ≡ hearing p NoEvent
+stays : (p : ParameterState) (mono : Bool) (v : ℕ) → parameter.updateByFields p 0xB (modeController mono) v ≡ parameterUpdate p NoEvent
 unfolding controlled numberStored
 stays p true v = refl
 stays p false v = refl
 
 -- one mode message on the way
 mode-stage : {z : Zones} (e : End) (zone : MpeZone) (mono : Bool) (v : ℕ) → legal (z .layout) ≡ true → 0 < membersOf (z .layout) zone → v < 0x80
-    → Stage z e → Stage (withMono z zone mono) (told-all e (controlWord (lowestOf (z .layout) zone) (modeController mono) v ∷ []))
+    → Stage z e → Stage (withMono z zone mono) (received-all e (controlWord (lowestOf (z .layout) zone) (modeController mono) v ∷ []))
 mode-stage {z} e zone mono v h some hv s =
     let k = lowestOf (z .layout) zone in
     let hk = lowest-lt (z .layout) zone h some in
     let r = e .receiver in
     let same : r .layout ≡ z .layout = ap (λ y. y .layout) (s .zones) in
     let b = withReader e (readerAt (statusOf 0xB k) 0x80) in
-    let moved = heardOf r NoEvent 0xB k (modeController mono) v .receiver in
+    let moved = receivedByFields r NoEvent 0xB k (modeController mono) v .receiver in
     let acts : zonesOf moved ≡ withMono (zonesOf r) zone mono =
-    subst (λ l. zonesOf (heardOf r NoEvent 0xB (lowestOf l zone) (modeController mono) v .receiver) ≡ withMono (zonesOf r) zone mono) same
+    subst (λ l. zonesOf (receivedByFields r NoEvent 0xB (lowestOf l zone) (modeController mono) v .receiver) ≡ withMono (zonesOf r) zone mono) same
     (mode-acts r zone mono v (subst (λ l. legal l ≡ true) (sym same) h) (subst (λ l. 0 < membersOf l zone) (sym same) some)) in
-    stage-at e (told-all e (controlWord k (modeController mono) v ∷ [])) k (readerAt (statusOf 0xB k) 0x80) (parameterAt e k) moved s
-    (heard-formed e (bytes (controlWord k (modeController mono) v ∷ [])) (s .formed))
+    stage-at e (received-all e (controlWord k (modeController mono) v ∷ [])) k (readerAt (statusOf 0xB k) 0x80) (parameterAt e k) moved s
+    (bytes-formed e (bytes (controlWord k (modeController mono) v ∷ [])) (s .formed))
     (control-all e k (modeController mono) v hk (mode-lt mono) hv
-    ∙ ap (λ x. withReceiver (withParameter b k (x .state)) (heardOf r (x .event) 0xB k (modeController mono) v .receiver)) (stays (parameterAt e k) mono v))
+    ∙ ap (λ x. withReceiver (withParameter b k (x .state)) (receivedByFields r (x .event) 0xB k (modeController mono) v .receiver)) (stays (parameterAt e k) mono v))
     (s .cleared k hk)
     (acts ∙ ap (λ y. withMono y zone mono) (s .zones))
 
@@ -237,8 +237,8 @@ abbrev pub modedFor : Settings → MpeZone → Zones → Zones
 modedFor s zone z = if eqb (membersIn s zone) 0 then z else withMono z zone (isMono (zoneOf s zone))
 
 pub modes-stage : {z : Zones} (s : Settings) (zone : MpeZone) (e : End) → allowed s ≡ true → z .layout ≡ s .layout → Stage z e
-    → Stage (modedFor s zone z) (told-all e (modes s zone))
-unfolding modes bytes heard
+    → Stage (modedFor s zone z) (received-all e (modes s zone))
+unfolding modes bytes afterBytes
 modes-stage {z} s zone e h same st =
     by-test (eqb (membersIn s zone) 0)
     (λ t. rw t st)
@@ -247,8 +247,8 @@ modes-stage {z} s zone e h same st =
     let law : legal (z .layout) ≡ true = subst (λ l. legal l ≡ true) (sym same) (allowed-legal s h) in
     let many : 0 < membersOf (z .layout) zone = subst (λ l. 0 < membersOf l zone) (sym same) some in
     let le = members-le (s .layout) zone (allowed-legal s h) in
-    let set : (mono : Bool) (v : ℕ) → v < 0x80 → Stage (withMono z zone mono) (told-all e (controlWord (lowestOf (s .layout) zone) (modeController mono) v ∷ [])) = λ mono v hv.
-    subst (λ l. Stage (withMono z zone mono) (told-all e (controlWord (lowestOf l zone) (modeController mono) v ∷ []))) same
+    let set : (mono : Bool) (v : ℕ) → v < 0x80 → Stage (withMono z zone mono) (received-all e (controlWord (lowestOf (s .layout) zone) (modeController mono) v ∷ [])) = λ mono v hv.
+    subst (λ l. Stage (withMono z zone mono) (received-all e (controlWord (lowestOf l zone) (modeController mono) v ∷ []))) same
     (mode-stage e zone mono v law many hv st) in
     by-test (isMono (zoneOf s zone))
     (λ m. rw m (set true (membersIn s zone) (omega (arith, le))))

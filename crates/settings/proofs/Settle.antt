@@ -23,15 +23,15 @@ use Rattle.mpe_sender.specs.Writers.{controlWord}
 use Rattle.byte_reader.specs.declared.Reader.{Reader}
 use Rattle.receiving_end.specs.declared.end.End.{End}
 use Rattle.byte_reader.specs.Reader.{readerAt}
-use Rattle.receiving_end.specs.End.{blank, withReader, withReceiver, withParameter, parameterAt}
-use Rattle.receiving_end.proofs.Parts.{statusOf, two-told, one-told}
-use Rattle.receiving_end.proofs.Tell.{control-told, other-told}
+use Rattle.receiving_end.specs.End.{blankState, withReader, withReceiver, withParameter, parameterAt}
+use Rattle.receiving_end.proofs.Parts.{statusOf, two-received, one-received}
+use Rattle.receiving_end.proofs.Receive.{control-received, other-received}
 use Rattle.settings.specs.declared.Settings.{Settings}
-use Rattle.settings.specs.Settings.{bendOf, pressureOf, brightnessOf, allowed}
+use Rattle.settings.specs.Settings.{bendOn, pressureOn, brightnessOn, allowed}
 use Rattle.settings.specs.Messages.{deselectionOn, deselections, controlsOn, controls, bytes}
 use Rattle.settings.proofs.Allowed.{allowed-channel}
 use Rattle.settings.proofs.Bytes.{bend-bytes, pressure-bytes}
-use Rattle.settings.proofs.Told.{told-all, told-append, control-all, heard-formed, each-told}
+use Rattle.settings.proofs.Received.{received-all, received-append, control-all, bytes-formed, each-received}
 use Rattle.settings.proofs.Stage.{Cleared, cleared-with, Stage, all-set, stage-at}
 
 -- both numbers null, the registered kind last, and the switches as new
@@ -49,29 +49,29 @@ module _ (e : End) (k : ℕ) (hk : k < 16) (sized : length (e .parameters) ≡ 1
   abbrev at : ParameterState → End
   at q = withParameter (withReader e (readerAt (statusOf 0xB k) 0x80)) k q
 
-  first : told-all e (controlWord k 101 127 ∷ []) ≡ at (withRpn p (number 127 (p .rpn .lsb)))
+  first : received-all e (controlWord k 101 127 ∷ []) ≡ at (withRpn p (number 127 (p .rpn .lsb)))
   unfolding numberStored stored
   first =
       control-all e k 101 127 hk (omega arith) (omega arith)
-      ∙ control-told (withReader e (readerAt (statusOf 0xB k) 0x80)) k 101 127
+      ∙ control-received (withReader e (readerAt (statusOf 0xB k) 0x80)) k 101 127
       (record { not-6 = λ z. omega arith; not-38 = λ z. omega arith; not-96 = λ z. omega arith; not-97 = λ z. omega arith })
       (λ z. (λ y. omega arith, λ y. omega arith))
 
-  second : told-all (at (withRpn p (number 127 (p .rpn .lsb)))) (controlWord k 100 127 ∷ []) ≡ at (withRpn p nullNumber)
+  second : received-all (at (withRpn p (number 127 (p .rpn .lsb)))) (controlWord k 100 127 ∷ []) ≡ at (withRpn p nullNumber)
   unfolding numberStored stored
   second =
       let x = at (withRpn p (number 127 (p .rpn .lsb))) in
       control-all x k 100 127 hk (omega arith) (omega arith)
-      ∙ control-told x k 100 127
+      ∙ control-received x k 100 127
       (record { not-6 = λ z. omega arith; not-38 = λ z. omega arith; not-96 = λ z. omega arith; not-97 = λ z. omega arith })
       (λ z. (λ y. omega arith, λ y. omega arith))
-      ∙ ap (λ q. withParameter x k (numberStored q 100 127)) (getD-set-same (e .parameters) k (withRpn p (number 127 (p .rpn .lsb))) blank (omega arith))
+      ∙ ap (λ q. withParameter x k (numberStored q 100 127)) (getD-set-same (e .parameters) k (withRpn p (number 127 (p .rpn .lsb))) blankState (omega arith))
       ∙ ap (λ t. record { reader = readerAt (statusOf 0xB k) 0x80; parameters = t; receiver = e .receiver }) (set-set (e .parameters) k _ _)
 
-  null-chosen : told-all e (deselectionOn k) ≡ at (withRpn p nullNumber)
+  null-chosen : received-all e (deselectionOn k) ≡ at (withRpn p nullNumber)
   null-chosen =
-      told-append e (controlWord k 101 127 ∷ []) (controlWord k 100 127 ∷ [])
-      ∙ ap (λ x. told-all x (controlWord k 100 127 ∷ [])) first
+      received-append e (controlWord k 101 127 ∷ []) (controlWord k 100 127 ∷ [])
+      ∙ ap (λ x. received-all x (controlWord k 100 127 ∷ [])) first
       ∙ second
 
 -- the channels below n are settled
@@ -79,23 +79,23 @@ pub record Settling (z : Zones) (n : ℕ) (e : End) : Type 0 where
   pub stage : Stage z e
   pub settled-below : (k : ℕ) → k < n → parameterAt e k ≡ settled
 
-settle-more : (z : Zones) (n : ℕ) (e : End) → n < 16 → Settling z n e → Settling z (suc n) (told-all e (deselectionOn n))
+settle-more : (z : Zones) (n : ℕ) (e : End) → n < 16 → Settling z n e → Settling z (suc n) (received-all e (deselectionOn n))
 settle-more z n e hn s =
     let st = s .stage in
     let c = st .cleared n hn in
-    let told = null-chosen e n hn (st .formed .channels) in
+    let received = null-chosen e n hn (st .formed .channels) in
     record {
-      stage = stage-at e (told-all e (deselectionOn n)) n (readerAt (statusOf 0xB n) 0x80) (withRpn (parameterAt e n) nullNumber) (e .receiver) st
-          (heard-formed e (bytes (deselectionOn n)) (st .formed)) told (cleared-with (parameterAt e n) nullNumber c) (st .zones);
+      stage = stage-at e (received-all e (deselectionOn n)) n (readerAt (statusOf 0xB n) 0x80) (withRpn (parameterAt e n) nullNumber) (e .receiver) st
+          (bytes-formed e (bytes (deselectionOn n)) (st .formed)) received (cleared-with (parameterAt e n) nullNumber c) (st .zones);
       settled-below = λ k hk.
-          subst (λ x. parameterAt x k ≡ settled) (sym told)
+          subst (λ x. parameterAt x k ≡ settled) (sym received)
           (all-set (λ q. q ≡ settled) (e .parameters) n (withRpn (parameterAt e n) nullNumber) (st .formed .channels) (cleared-settled (parameterAt e n) c) k (omega arith)
           (λ ne. s .settled-below k (omega arith)));
     }
 
-pub settled-stage : (z : Zones) (e : End) → Stage z e → Settling z 16 (told-all e deselections)
+pub settled-stage : (z : Zones) (e : End) → Stage z e → Settling z 16 (received-all e deselections)
 settled-stage z e s =
-    each-told (Settling z) deselectionOn (settle-more z) 16 e (omega arith)
+    each-received (Settling z) deselectionOn (settle-more z) 16 e (omega arith)
     (record { stage = s; settled-below = λ k h. absurd (not-suc-le-zero h) })
 
 -- F. what the three messages of a channel do to a receiver
@@ -110,37 +110,37 @@ abbrev only : End → Reader → MpeReceiver → End
 only e rd r = withReceiver (withReader e rd) r
 
 same-parameters : (e : End) (rd : Reader) (k : ℕ) (r : MpeReceiver) → withReceiver (withParameter (withReader e rd) k (parameterAt e k)) r ≡ only e rd r
-same-parameters e rd k r = ap (λ l. record { reader = rd; parameters = l; receiver = r }) (set-getD (e .parameters) k blank)
+same-parameters e rd k r = ap (λ l. record { reader = rd; parameters = l; receiver = r }) (set-getD (e .parameters) k blankState)
 
-bend-told : (e : End) (k v : ℕ) → k < 16 → v < 2 ^ 14
-    → told-all e (wordOf 0 0xE k (v % 2 ^ 7) (v / 2 ^ 7) ∷ [])
+bend-received : (e : End) (k v : ℕ) → k < 16 → v < 2 ^ 14
+    → received-all e (wordOf 0 0xE k (v % 2 ^ 7) (v / 2 ^ 7) ∷ [])
     ≡ only e (readerAt (statusOf 0xE k) 0x80) (withBends (e .receiver) (set (e .receiver .«pitch_bend») k v))
 unfolding bytes stored
-bend-told e k v hk hv =
+bend-received e k v hk hv =
     let back : v / 2 ^ 7 * 128 + v % 2 ^ 7 ≡ v = omega arith in
     rw (bend-bytes k v hk hv)
-    (two-told e 0xE k (v % 2 ^ 7) (v / 2 ^ 7) (inr refl) (omega arith) hk (omega arith) (omega arith)
-    ∙ other-told (withReader e (readerAt (statusOf 0xE k) 0x80)) 0xE k (v % 2 ^ 7) (v / 2 ^ 7) (λ z. omega arith)
+    (two-received e 0xE k (v % 2 ^ 7) (v / 2 ^ 7) (inr refl) (omega arith) hk (omega arith) (omega arith)
+    ∙ other-received (withReader e (readerAt (statusOf 0xE k) 0x80)) 0xE k (v % 2 ^ 7) (v / 2 ^ 7) (λ z. omega arith)
     ∙ same-parameters e (readerAt (statusOf 0xE k) 0x80) k (withBends (e .receiver) (set (e .receiver .«pitch_bend») k (v / 2 ^ 7 * 128 + v % 2 ^ 7)))
     ∙ ap (λ x. only e (readerAt (statusOf 0xE k) 0x80) (withBends (e .receiver) (set (e .receiver .«pitch_bend») k x))) back)
 
-brightness-told : (e : End) (k v : ℕ) → k < 16 → v < 0x80
-    → told-all e (controlWord k 74 v ∷ []) ≡ only e (readerAt (statusOf 0xB k) 0x80) (withBrightnesses (e .receiver) (set (e .receiver .brightness) k v))
+brightness-received : (e : End) (k v : ℕ) → k < 16 → v < 0x80
+    → received-all e (controlWord k 74 v ∷ []) ≡ only e (readerAt (statusOf 0xB k) 0x80) (withBrightnesses (e .receiver) (set (e .receiver .brightness) k v))
 unfolding stored numberStored
-brightness-told e k v hk hv =
+brightness-received e k v hk hv =
     control-all e k 74 v hk (omega arith) hv
-    ∙ control-told (withReader e (readerAt (statusOf 0xB k) 0x80)) k 74 v
+    ∙ control-received (withReader e (readerAt (statusOf 0xB k) 0x80)) k 74 v
     (record { not-6 = λ z. omega arith; not-38 = λ z. omega arith; not-96 = λ z. omega arith; not-97 = λ z. omega arith })
     (λ z. (λ y. omega arith, λ y. omega arith))
     ∙ same-parameters e (readerAt (statusOf 0xB k) 0x80) k (withBrightnesses (e .receiver) (set (e .receiver .brightness) k v))
 
-pressure-told : (e : End) (k v : ℕ) → k < 16 → v < 0x80
-    → told-all e (wordOf 0 0xD k v 0 ∷ []) ≡ only e (readerAt (statusOf 0xD k) 0x80) (withPressures (e .receiver) (set (e .receiver .pressure) k v))
+pressure-received : (e : End) (k v : ℕ) → k < 16 → v < 0x80
+    → received-all e (wordOf 0 0xD k v 0 ∷ []) ≡ only e (readerAt (statusOf 0xD k) 0x80) (withPressures (e .receiver) (set (e .receiver .pressure) k v))
 unfolding bytes stored
-pressure-told e k v hk hv =
+pressure-received e k v hk hv =
     rw (pressure-bytes k v hk hv)
-    (one-told e 0xD k v (omega arith) (omega arith) hk hv
-    ∙ other-told (withReader e (readerAt (statusOf 0xD k) 0x80)) 0xD k v 0 (λ z. omega arith)
+    (one-received e 0xD k v (omega arith) (omega arith) hk hv
+    ∙ other-received (withReader e (readerAt (statusOf 0xD k) 0x80)) 0xD k v 0 (λ z. omega arith)
     ∙ same-parameters e (readerAt (statusOf 0xD k) 0x80) k (withPressures (e .receiver) (set (e .receiver .pressure) k v)))
 
 -- one element more of a list that follows f
@@ -154,57 +154,57 @@ one-more l f n hn below k hk =
     getD-set-other l n k (f n) 0 ne ∙ below k (omega arith))
 
 module _ (s : Settings) (h : allowed s ≡ true) where
-  controls-told : (e : End) (k : ℕ) → k < 16
-      → told-all e (controlsOn s k) ≡ only e (readerAt (statusOf 0xD k) 0x80) (controlled (e .receiver) k (bendOf s k) (brightnessOf s k) (pressureOf s k))
-  controls-told e k hk =
+  controls-received : (e : End) (k : ℕ) → k < 16
+      → received-all e (controlsOn s k) ≡ only e (readerAt (statusOf 0xD k) 0x80) (controlled (e .receiver) k (bendOn s k) (brightnessOn s k) (pressureOn s k))
+  controls-received e k hk =
       let limits = allowed-channel s h k hk in
-      let a = wordOf 0 0xE k (bendOf s k % 2 ^ 7) (bendOf s k / 2 ^ 7) in
-      let b = controlWord k 74 (brightnessOf s k) in
-      let c = wordOf 0 0xD k (pressureOf s k) 0 in
-      let first = bend-told e k (bendOf s k) hk (omega (arith, limits .0)) in
-      told-append e (a ∷ []) (b ∷ c ∷ [])
-      ∙ ap (λ x. told-all x (b ∷ c ∷ [])) first
-      ∙ told-append (only e (readerAt (statusOf 0xE k) 0x80) (withBends (e .receiver) (set (e .receiver .«pitch_bend») k (bendOf s k)))) (b ∷ []) (c ∷ [])
-      ∙ ap (λ x. told-all x (c ∷ [])) (brightness-told (only e (readerAt (statusOf 0xE k) 0x80) (withBends (e .receiver) (set (e .receiver .«pitch_bend») k (bendOf s k)))) k (brightnessOf s k) hk (omega (arith, limits .2)))
-      ∙ pressure-told _ k (pressureOf s k) hk (omega (arith, limits .1))
+      let a = wordOf 0 0xE k (bendOn s k % 2 ^ 7) (bendOn s k / 2 ^ 7) in
+      let b = controlWord k 74 (brightnessOn s k) in
+      let c = wordOf 0 0xD k (pressureOn s k) 0 in
+      let first = bend-received e k (bendOn s k) hk (omega (arith, limits .0)) in
+      received-append e (a ∷ []) (b ∷ c ∷ [])
+      ∙ ap (λ x. received-all x (b ∷ c ∷ [])) first
+      ∙ received-append (only e (readerAt (statusOf 0xE k) 0x80) (withBends (e .receiver) (set (e .receiver .«pitch_bend») k (bendOn s k)))) (b ∷ []) (c ∷ [])
+      ∙ ap (λ x. received-all x (c ∷ [])) (brightness-received (only e (readerAt (statusOf 0xE k) 0x80) (withBends (e .receiver) (set (e .receiver .«pitch_bend») k (bendOn s k)))) k (brightnessOn s k) hk (omega (arith, limits .2)))
+      ∙ pressure-received _ k (pressureOn s k) hk (omega (arith, limits .1))
 
   -- the channels below n show the settings
   pub record Controlled (z : Zones) (n : ℕ) (e : End) : Type 0 where
     pub settling : Settling z 16 e
     pub reader-at : (m : ℕ) → n ≡ suc m → e .reader ≡ readerAt (statusOf 0xD m) 0x80
-    pub bends-below : (k : ℕ) → k < n → getD (e .receiver .«pitch_bend») k 0 ≡ bendOf s k
-    pub brightnesses-below : (k : ℕ) → k < n → getD (e .receiver .brightness) k 0 ≡ brightnessOf s k
-    pub pressures-below : (k : ℕ) → k < n → getD (e .receiver .pressure) k 0 ≡ pressureOf s k
+    pub bends-below : (k : ℕ) → k < n → getD (e .receiver .«pitch_bend») k 0 ≡ bendOn s k
+    pub brightnesses-below : (k : ℕ) → k < n → getD (e .receiver .brightness) k 0 ≡ brightnessOn s k
+    pub pressures-below : (k : ℕ) → k < n → getD (e .receiver .pressure) k 0 ≡ pressureOn s k
 
-  control-more : (z : Zones) (n : ℕ) (e : End) → n < 16 → Controlled z n e → Controlled z (suc n) (told-all e (controlsOn s n))
+  control-more : (z : Zones) (n : ℕ) (e : End) → n < 16 → Controlled z n e → Controlled z (suc n) (received-all e (controlsOn s n))
   control-more z n e hn c =
       let st = c .settling .stage in
       let f = st .formed .receiver-formed in
-      let told = sym (controls-told e n hn) in
+      let received = sym (controls-received e n hn) in
       record {
         settling = record {
           stage = record {
-            formed = heard-formed e (bytes (controlsOn s n)) (st .formed);
-            cleared = λ k hk. subst (λ x. Cleared (parameterAt x k)) told (st .cleared k hk);
-            zones = subst (λ x. zonesOf (x .receiver) ≡ z) told (st .zones);
+            formed = bytes-formed e (bytes (controlsOn s n)) (st .formed);
+            cleared = λ k hk. subst (λ x. Cleared (parameterAt x k)) received (st .cleared k hk);
+            zones = subst (λ x. zonesOf (x .receiver) ≡ z) received (st .zones);
           };
-          settled-below = λ k hk. subst (λ x. parameterAt x k ≡ settled) told (c .settling .settled-below k hk);
+          settled-below = λ k hk. subst (λ x. parameterAt x k ≡ settled) received (c .settling .settled-below k hk);
         };
-        reader-at = λ m p. let q : n ≡ m = omega arith in subst (λ x. x .reader ≡ readerAt (statusOf 0xD m) 0x80) told (ap (λ i. readerAt (statusOf 0xD i) 0x80) q);
+        reader-at = λ m p. let q : n ≡ m = omega arith in subst (λ x. x .reader ≡ readerAt (statusOf 0xD m) 0x80) received (ap (λ i. readerAt (statusOf 0xD i) 0x80) q);
         bends-below = λ k hk.
-            subst (λ x. getD (x .receiver .«pitch_bend») k 0 ≡ bendOf s k) told
-            (one-more (e .receiver .«pitch_bend») (bendOf s) n (omega (arith, f .bends)) (c .bends-below) k hk);
+            subst (λ x. getD (x .receiver .«pitch_bend») k 0 ≡ bendOn s k) received
+            (one-more (e .receiver .«pitch_bend») (bendOn s) n (omega (arith, f .bends)) (c .bends-below) k hk);
         brightnesses-below = λ k hk.
-            subst (λ x. getD (x .receiver .brightness) k 0 ≡ brightnessOf s k) told
-            (one-more (e .receiver .brightness) (brightnessOf s) n (omega (arith, f .brightnesses)) (c .brightnesses-below) k hk);
+            subst (λ x. getD (x .receiver .brightness) k 0 ≡ brightnessOn s k) received
+            (one-more (e .receiver .brightness) (brightnessOn s) n (omega (arith, f .brightnesses)) (c .brightnesses-below) k hk);
         pressures-below = λ k hk.
-            subst (λ x. getD (x .receiver .pressure) k 0 ≡ pressureOf s k) told
-            (one-more (e .receiver .pressure) (pressureOf s) n (omega (arith, f .pressures)) (c .pressures-below) k hk);
+            subst (λ x. getD (x .receiver .pressure) k 0 ≡ pressureOn s k) received
+            (one-more (e .receiver .pressure) (pressureOn s) n (omega (arith, f .pressures)) (c .pressures-below) k hk);
       }
 
-  pub controlled-stage : (z : Zones) (e : End) → Settling z 16 e → Controlled z 16 (told-all e (controls s))
+  pub controlled-stage : (z : Zones) (e : End) → Settling z 16 e → Controlled z 16 (received-all e (controls s))
   controlled-stage z e c =
-      each-told (Controlled z) (controlsOn s) (control-more z) 16 e (omega arith)
+      each-received (Controlled z) (controlsOn s) (control-more z) 16 e (omega arith)
       (record {
         settling = c;
         reader-at = λ m p. absurd (omega arith);

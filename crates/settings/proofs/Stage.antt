@@ -19,7 +19,7 @@ use Rattle.mpe_receiver.specs.declared.MpeReceiver.{MpeReceiver}
 use Rattle.mpe_receiver.specs.State.{zonesOf}
 use Rattle.byte_reader.specs.declared.Reader.{Reader}
 use Rattle.receiving_end.specs.declared.end.End.{End}
-use Rattle.receiving_end.specs.End.{blank, withReader, withReceiver, withParameter, parameterAt}
+use Rattle.receiving_end.specs.End.{blankState, withReader, withReceiver, withParameter, parameterAt}
 use Rattle.receiving_end.specs.WellFormed.{EndFormed}
 
 -- parameters whose non-registered number is null, with the switches as new
@@ -42,15 +42,15 @@ pub record Stage (z : Zones) (e : End) : Type 0 where
 
 -- a property of every channel, where one channel is set
 pub all-set : (P : ParameterState → Type 0) (l : List ParameterState) (k : ℕ) (q : ParameterState) → length l ≡ 16 → P q
-    → (j : ℕ) → j < 16 → ((j ≡ k → ⊥) → P (getD l j blank)) → P (getD (set l k q) j blank)
+    → (j : ℕ) → j < 16 → ((j ≡ k → ⊥) → P (getD l j blankState)) → P (getD (set l k q) j blankState)
 all-set P l k q sized h j hj before =
     by-test (eqb j k)
     (λ e.
     let p : j ≡ k = eqb-true j k e in
-    subst P (sym (ap (λ i. getD (set l k q) i blank) p ∙ getD-set-same l k q blank (omega arith))) h)
+    subst P (sym (ap (λ i. getD (set l k q) i blankState) p ∙ getD-set-same l k q blankState (omega arith))) h)
     (λ e.
     let n : j ≡ k → ⊥ = eqb-false j k e in
-    subst P (sym (getD-set-other l k j q blank n)) (before n))
+    subst P (sym (getD-set-other l k j q blankState n)) (before n))
 
 -- a message that leaves a channel's parameters cleared
 pub stage-at : {z y : Zones} (e x : End) (k : ℕ) (rd : Reader) (q : ParameterState) (r : MpeReceiver) → Stage z e → EndFormed x

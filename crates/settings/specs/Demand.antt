@@ -11,9 +11,9 @@ use Rattle.mpe_pitch.specs.declared.MpeSensitivity.{MpeSensitivity}
 use Rattle.mpe_pitch.specs.Pitch.{managerDefault, memberDefault}
 use Rattle.receiving_end.specs.declared.end.End.{End}
 use Rattle.receiving_end.specs.End.{newEnd}
-use Rattle.receiving_end.specs.Lists.{Call, byteByValue, byteLent, layout, mode, sensitivity, pitchBend, pressure, brightness, rpnReception, nrpnReception, laidOut, counted, ranged, switched, answer, after, answers, heard}
+use Rattle.receiving_end.specs.Lists.{Call, byteByValue, byteLent, layout, mode, sensitivity, pitchBend, pressure, brightness, rpnReception, nrpnReception, laidOut, counted, ranged, switched, answer, after, answers, afterBytes}
 use Rattle.settings.specs.declared.Settings.{Settings}
-use Rattle.settings.specs.Settings.{zoneOf, membersIn, bendOf, pressureOf, brightnessOf}
+use Rattle.settings.specs.Settings.{zoneOf, membersIn, bendOn, pressureOn, brightnessOn}
 
 -- every reception switch reads as on a new end
 pub record SwitchesAsNew (e : End) : Type 0 where
@@ -50,14 +50,14 @@ pub record Shown (s : Settings) (e : End) : Type 0 where
   pub shows-layout : answer e layout ≡ laidOut (s .layout)
   pub shows-sensitivity : (zone : MpeZone) (manager : Bool) → answer e (sensitivity zone manager) ≡ ranged (shownSensitivity s zone manager)
   pub shows-mode : (zone : MpeZone) → answer e (mode zone) ≡ counted (shownMode s zone)
-  pub shows-bend : (channel : ℕ) → answer e (pitchBend channel) ≡ counted (bendOf s (packetValue channel))
-  pub shows-pressure : (channel : ℕ) → answer e (pressure channel) ≡ counted (pressureOf s (packetValue channel))
-  pub shows-brightness : (channel : ℕ) → answer e (brightness channel) ≡ counted (brightnessOf s (packetValue channel))
+  pub shows-bend : (channel : ℕ) → answer e (pitchBend channel) ≡ counted (bendOn s (packetValue channel))
+  pub shows-pressure : (channel : ℕ) → answer e (pressure channel) ≡ counted (pressureOn s (packetValue channel))
+  pub shows-brightness : (channel : ℕ) → answer e (brightness channel) ≡ counted (brightnessOn s (packetValue channel))
 
 -- Whatever was called on a new end, if the switches are as new and then these bytes arrive, the end shows the settings, and every later list of
--- calls gets the answers of a new end that heard these bytes alone.
+-- calls gets the answers of a new end that afterBytes these bytes alone.
 pub record Demand (s : Settings) (bytes : List ℕ) : Type 0 where
   pub shown : (before calls : List Call) → SwitchesAsNew (after newEnd before) → Arrives bytes calls
       → Shown s (after (after newEnd before) calls)
   pub answered-alike : (before calls later : List Call) → SwitchesAsNew (after newEnd before) → Arrives bytes calls
-      → answers (after (after newEnd before) calls) later ≡ answers (heard newEnd bytes) later
+      → answers (after (after newEnd before) calls) later ≡ answers (afterBytes newEnd bytes) later

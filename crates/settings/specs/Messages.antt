@@ -1,6 +1,6 @@
 -- The messages that restate settings, as words and as bytes (document 01, "Restatement").
 use Prim.Native.Nat.{ℕ, zero, suc, _+_, _*_, _-_, _/_, _%_, _^_}
-use mathlib.Core.Bool.{Bool, true, false}
+use mathlib.Core.Bool.{true}
 use mathlib.Core.Path.{_≡_}
 use mathlib.Core.List.{List, [], _∷_, _++_}
 use lib.Dec.{ltb, eqb}
@@ -15,7 +15,7 @@ use Rattle.mpe_layout.specs.Layout.{managerOf, lowestOf}
 use Rattle.mpe_sender.specs.Writers.{controlWord, rpnGroup}
 use Rattle.mpe_sender.specs.Zone.{zoneWords}
 use Rattle.settings.specs.declared.Settings.{Settings}
-use Rattle.settings.specs.Settings.{zoneOf, membersIn, isMono, bendOf, pressureOf, brightnessOf, allowed}
+use Rattle.settings.specs.Settings.{zoneOf, membersIn, isMono, bendOn, pressureOn, brightnessOn, allowed}
 
 -- the messages of each channel below n, channels rising, one channel's together
 unfoldable pub eachChannel : (ℕ → List ℕ) → ℕ → List ℕ
@@ -61,9 +61,9 @@ deselections = eachChannel deselectionOn 16
 -- F. Pitch Bend, controller 74 and Channel Pressure of a channel
 abbrev pub controlsOn : Settings → ℕ → List ℕ
 controlsOn s k =
-    wordOf 0 0xE k (bendOf s k % 2 ^ 7) (bendOf s k / 2 ^ 7)
-    ∷ controlWord k 74 (brightnessOf s k)
-    ∷ wordOf 0 0xD k (pressureOf s k) 0
+    wordOf 0 0xE k (bendOn s k % 2 ^ 7) (bendOn s k / 2 ^ 7)
+    ∷ controlWord k 74 (brightnessOn s k)
+    ∷ wordOf 0 0xD k (pressureOn s k) 0
     ∷ []
 
 abbrev pub controls : Settings → List ℕ

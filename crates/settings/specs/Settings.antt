@@ -39,14 +39,14 @@ abbrev pub isMono : ZoneSettings → Bool
 isMono z = eqb (z .mode) 4
 
 -- what is set for a channel below 16
-abbrev pub bendOf : Settings → ℕ → ℕ
-bendOf s k = getD (s .«pitch_bend») k 0
+abbrev pub bendOn : Settings → ℕ → ℕ
+bendOn s k = getD (s .«pitch_bend») k 0
 
-abbrev pub pressureOf : Settings → ℕ → ℕ
-pressureOf s k = getD (s .pressure) k 0
+abbrev pub pressureOn : Settings → ℕ → ℕ
+pressureOn s k = getD (s .pressure) k 0
 
-abbrev pub brightnessOf : Settings → ℕ → ℕ
-brightnessOf s k = getD (s .brightness) k 0
+abbrev pub brightnessOn : Settings → ℕ → ℕ
+brightnessOn s k = getD (s .brightness) k 0
 
 -- semitones 0 to 96 (M1-100 2.2.5), and mode 3 or 4; the fields of an empty zone are not read
 unfoldable pub zoneAllowed : ℕ → ZoneSettings → Bool
@@ -71,7 +71,7 @@ andChannel below bend pressure brightness = if below then channelAllowed bend pr
 
 unfoldable pub channelsAllowed : Settings → ℕ → Bool
 channelsAllowed s zero = true
-channelsAllowed s (suc n) = andChannel (channelsAllowed s n) (bendOf s n) (pressureOf s n) (brightnessOf s n)
+channelsAllowed s (suc n) = andChannel (channelsAllowed s n) (bendOn s n) (pressureOn s n) (brightnessOn s n)
 
 -- a legal layout, and every field that is read inside its limits
 unfoldable pub allowed : Settings → Bool

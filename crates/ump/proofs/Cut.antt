@@ -1,9 +1,8 @@
 -- Fields: a shift and a mask cut one out, a shift and an or lay one in, and what is laid is read back. Each law is over the place and the width.
 -- Assumes nothing.
-use mathlib.Core.Path.{_≡_, sym, subst, _∙_, ap}
+use mathlib.Core.Path.{_≡_}
 use Prim.Native.Nat.{ℕ, _+_, _*_, _/_, _-_, _%_, _^_, _<_, _≤_}
 use native.Mathlib.Nat.{lt-of-lt-of-le, mod-eq-of-lt, mod-lt, div-one, mul-assoc, mul-add-div-right, mul-add-mod-self-right}
-use native.Mathlib.Omega.{arith}
 use lib.Bits.{bitAnd, bitOr, and-mask, mask-lt, or-shifted-r}
 use lib.Pow.{pow-mono, pow-pos, pow-add}
 use lib.Arith.{digits-div}

@@ -1,6 +1,5 @@
 -- Registered Parameter Numbers (MIDI 1.0, Table IIIa; RP-018).
 use Prim.Native.Nat.{ℕ, _%_}
-use mathlib.Core.Bool.{_&&_}
 use lib.Dec.{eqb}
 use Rattle.ump.specs.Choice.{if_then_else_}
 use Rattle.ump.specs.declared.controller.Rpn.{Rpn}

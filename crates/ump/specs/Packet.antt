@@ -3,8 +3,6 @@ use Prim.Native.Nat.{ℕ, _-_, _%_}
 use lib.Dec.{ltb, eqb}
 use Rattle.ump.specs.Choice.{if_then_else_}
 use Rattle.ump.specs.Outcome.{Outcome, given, outOfRange}
-use Rattle.ump.specs.declared.packet.Group.{Group}
-use Rattle.ump.specs.declared.packet.Channel.{Channel}
 use Rattle.ump.specs.declared.packet.MadeGroup.{MadeGroup}
 use Rattle.ump.specs.declared.packet.MadeGroup.the-variants as madeGroup
 use Rattle.ump.specs.declared.packet.MadeChannel.{MadeChannel}

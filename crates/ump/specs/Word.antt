@@ -1,6 +1,6 @@
 -- The word of a MIDI 1.0 channel voice message (M2-104 7.3, Table 28; document 01, "A byte arrives").
 use Prim.Native.Nat.{ℕ, _+_, _*_, _/_, _%_, _^_}
-use mathlib.Core.Bool.{Bool, true, false, _&&_, _||_}
+use mathlib.Core.Bool.{Bool, true, _&&_, _||_}
 use lib.Dec.{ltb, leb, eqb}
 use Rattle.ump.specs.Choice.{if_then_else_}
 use Rattle.ump.specs.Outcome.{Outcome, given, outOfRange}

@@ -19,8 +19,8 @@ abbrev μ-loop : tie.MeasureT-loop
 new-requires : tie.Need-new-requires Inv-loop μ-loop
 new-requires c κs = search needs
 
-hear-requires : tie.Need-hear-requires Inv-loop μ-loop
-hear-requires c κs = search needs
+step-all-requires : tie.Need-step-all-requires Inv-loop μ-loop
+step-all-requires c κs = search needs
 
 loop-holds : tie.Need-loop-holds Inv-loop μ-loop
 loop-holds c = (omega arith, refl)
@@ -50,7 +50,7 @@ loop-again : tie.Need-loop-again Inv-loop μ-loop
 loop-again c =
     let at = c .before .before .before .before .before .loop in
     let l = c .before .before .before .before .before .before .before .before .before .before .args .channels .now in
-    let e = c .before .before .before .before .before .before .hear .result in
+    let e = c .before .before .before .before .before .before .step-all .result in
     let one = offsets-left e (at .sum) l (at .i) (omega arith) in (
       omega arith,
       rw (c .wrapping-add-u64 .ensures, c .before .magnitude .ensures, c .before .before .pitch-offset .ensures) (one ∙ at .inv .1),
@@ -61,8 +61,8 @@ unfolding offsetsSum
 returns c =
     let at = c .before .loop in
     let l = c .before .before .before .before .before .before .args .channels .now in
-    let e = c .before .before .hear .result in
-    sym (ap (λ r. offsetsSum e (at .sum) r) (drop-of-length-le l {i = at .i} (omega arith))) ∙ at .inv .1 ∙ rw (c .before .before .hear .ensures, c .before .before .before .new .ensures) refl
+    let e = c .before .before .step-all .result in
+    sym (ap (λ r. offsetsSum e (at .sum) r) (drop-of-length-le l {i = at .i} (omega arith))) ∙ at .inv .1 ∙ rw (c .before .before .step-all .ensures, c .before .before .before .new .ensures) refl
 
 pub gurfemau-offsets-spec : {M : Type 1} → statement M
 gurfemau-offsets-spec =
@@ -71,7 +71,7 @@ gurfemau-offsets-spec =
     Inv-loop
     μ-loop
     new-requires
-    hear-requires
+    step-all-requires
     loop-holds
     shared-slice-read-pitch-offset
     pitch-offset-requires

@@ -3,38 +3,38 @@
 use Rattle.byte_reader.proofs.class_of.Statement.{statement}
 use Rattle.byte_reader.proofs.class_of.Tie as tie
 use Rattle.ump.proofs.Auto.{auto}
-use Rattle.byte_reader.specs.Reader.{classOf}
+use Rattle.byte_reader.specs.Reader.{classOfByte}
 
 returns : tie.Need-returns
-unfolding classOf
+unfolding classOfByte
 returns c = search auto
 
 returns-2 : tie.Need-returns-2
-unfolding classOf
+unfolding classOfByte
 returns-2 c = search auto
 
 returns-3 : tie.Need-returns-3
-unfolding classOf
+unfolding classOfByte
 returns-3 c = search auto
 
 returns-4 : tie.Need-returns-4
-unfolding classOf
+unfolding classOfByte
 returns-4 c = search auto
 
 returns-5 : tie.Need-returns-5
-unfolding classOf
+unfolding classOfByte
 returns-5 c = search auto
 
 returns-6 : tie.Need-returns-6
-unfolding classOf
+unfolding classOfByte
 returns-6 c = search auto
 
 returns-7 : tie.Need-returns-7
-unfolding classOf
+unfolding classOfByte
 returns-7 c = search auto
 
 returns-8 : tie.Need-returns-8
-unfolding classOf
+unfolding classOfByte
 returns-8 c = search auto
 
 pub class-of-spec : {M : Type 1} → statement M

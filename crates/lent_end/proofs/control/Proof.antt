@@ -5,11 +5,11 @@ use Prim.Native.Nat.{ℕ}
 use mathlib.Core.Bool.{Bool}
 use mathlib.Core.Path.{_≡_}
 use Rattle.ump.specs.Word.{opcodeOf, channelOf, firstOf, secondOf}
-use Rattle.parameters.specs.declared.Heard.{Heard}
+use Rattle.parameters.specs.declared.ParameterUpdate.{ParameterUpdate}
 use Rattle.parameters.specs.declared.ParameterState.{ParameterState}
 use Rattle.parameters.specs.State as parameter
-use Rattle.mpe_zones.specs.declared.Told.{Told}
-use Rattle.mpe_zones.specs.Told.{saidBy, toldAs}
+use Rattle.mpe_zones.specs.declared.ZonesUpdate.{ZonesUpdate}
+use Rattle.mpe_zones.specs.Update.{decoded, updatedAs}
 use Rattle.mpe_receiver.specs.Receive.{settlesBy}
 use Rattle.lent_end.specs.declared.Placed.{Placed}
 use Rattle.receiving_end.specs.declared.end.Reply.the-variants.{Message}
@@ -35,21 +35,21 @@ channel-requires c κs = search needs
 first-data-requires-2 : tie.Need-first-data-requires-2
 first-data-requires-2 c κs = search needs
 
-tell-requires : tie.Need-tell-requires
-tell-requires c κs = search needs
+apply-requires : tie.Need-apply-requires
+apply-requires c κs = search needs
 
 settles-requires : tie.Need-settles-requires
 settles-requires c κs = search needs
 
 -- the calls that make it
-made : (p : ParameterState) (at : Placed) (w : ℕ) {f s o k g : ℕ} {h : Heard} {t : Told} {more : Bool}
+made : (p : ParameterState) (at : Placed) (w : ℕ) {f s o k g : ℕ} {h : ParameterUpdate} {t : ZonesUpdate} {more : Bool}
     → f ≡ firstOf w
     → s ≡ secondOf w
     → h ≡ parameter.controlled p f s
     → o ≡ opcodeOf w
     → k ≡ channelOf w
     → g ≡ firstOf w
-    → t ≡ toldAs (at .zones) k (at .role) (at .event) (saidBy o (h .event)) g
+    → t ≡ updatedAs (at .zones) k (at .role) (at .event) (decoded o (h .event)) g
     → more ≡ settlesBy w (t .event)
     → record {
       state = h .state;
@@ -74,7 +74,7 @@ returns c =
     (d .opcode .ensures)
     (b .before .before .before .channel .ensures)
     (b .before .before .first-data2 .ensures)
-    (b .before .tell .ensures)
+    (b .before .apply .ensures)
     (c .settles .ensures)
 
 pub control-spec : {M : Type 1} → statement M
@@ -87,6 +87,6 @@ control-spec =
     opcode-requires
     channel-requires
     first-data-requires-2
-    tell-requires
+    apply-requires
     settles-requires
     returns)

@@ -9,7 +9,7 @@ use Rattle.mpe_receiver.specs.declared.MpeReceiver.{MpeReceiver}
 use Rattle.mpe_zones.specs.declared.MpeEvent.{MpeEvent}
 use Rattle.mpe_zones.specs.declared.Zones.{Zones}
 use Rattle.mpe_zones.specs.Zones.{roleHeld}
-use Rattle.mpe_zones.specs.Told.{eventOf}
+use Rattle.mpe_zones.specs.Update.{plainEvent}
 use Rattle.mpe_receiver.specs.State.{zonesOf}
 use Rattle.lent_end.specs.Lent.{placedOf}
 use Rattle.lent_end.proofs.place.Statement.{statement}
@@ -44,7 +44,7 @@ made : (r : MpeReceiver) (w : ℕ) {z : Zones} {ro : MpeRole} {event : MpeEvent}
     → o ≡ opcodeOf w
     → k ≡ channelOf w
     → f ≡ firstOf w
-    → event ≡ eventOf z k ro o f
+    → event ≡ plainEvent z k ro o f
     → record { zones = z; role = ro; event = event } ≡ placedOf r w
 made r w pz pj pr po pk pf pe = cc
 

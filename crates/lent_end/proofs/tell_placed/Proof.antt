@@ -43,7 +43,7 @@ use denote.Triple.Table.{entered, cited}
 use denote.Triple.Walked.{says, Stays, gave-ref, stay-none, walkOf, AllGo, goes-none, goes-gave-ref, Walks, ends-at, walked, walk-meets}
 use denote.Exit.{yes}
 use Rattle.lent_end.specs.Lent.{controlledAt, controlledEnd, parameterEnd, controlledOf}
-use Rattle.receiving_end.specs.End.{parameterAt, blank}
+use Rattle.receiving_end.specs.End.{parameterAt, blankState}
 use Rattle.receiving_end.specs.declared.end.End.{End}
 use Rattle.receiving_end.specs.declared.end.Reply.{Reply}
 use Rattle.lent_end.specs.declared.Controlled.{Controlled}
@@ -237,8 +237,8 @@ module _ {M : Type 1} (𝓤 : URA M) (H : Heap 𝓤) (A : Atoms 𝓤) (W : Given
         _ _ _ _ _ _ (vint w32 word) channel _ (LL.val Pl.the-type Pl′.the-laws placed) (LL.val Ps.the-type Ps′.the-laws stands) (LL.val Ct.the-type Ct′.the-laws (controlledAt h word channel placed)) (LL.val Rd.the-type Rd′.the-laws (h .reader)) (L.parameters h) (LL.val Rv.the-type Rv′.the-laws (h .receiver))
         (LL.lawful Tk.the-type Tk′.the-laws 𝓤 H A W .typed t _ t-is .0) (LL.lawful Pl.the-type Pl′.the-laws 𝓤 H A W .typed placed _ placed-is .0)
         (lending h) Post holding (Is T.the-row h (end-val h ∷ [])) (Is Ct.the-row (controlledAt h word channel placed) ((LL.val Ct.the-type Ct′.the-laws (controlledAt h word channel placed)) ∷ []))
-        (L.opens-here 𝓤 H A W κ q b o γ h) (L.parameters-count h) (λ was. L.parameter-spelled h was (channel % 16) channel<16 blank) (λ was. LL.lawful Ps.the-type Ps′.the-laws 𝓤 H A W .typed stands _ (L.parameter-is h was (channel % 16) channel<16 blank) .0)
-        (λ was. control-gives stands placed word (L.parameter-is h was (channel % 16) channel<16 blank) placed-is word-fits) (λ is. LL.lawful Ct.the-type Ct′.the-laws 𝓤 H A W .typed (controlledAt h word channel placed) _ is .0)
+        (L.opens-here 𝓤 H A W κ q b o γ h) (L.parameters-count h) (λ was. L.parameter-spelled h was (channel % 16) channel<16 blankState) (λ was. LL.lawful Ps.the-type Ps′.the-laws 𝓤 H A W .typed stands _ (L.parameter-is h was (channel % 16) channel<16 blankState) .0)
+        (λ was. control-gives stands placed word (L.parameter-is h was (channel % 16) channel<16 blankState) placed-is word-fits) (λ is. LL.lawful Ct.the-type Ct′.the-laws 𝓤 H A W .typed (controlledAt h word channel placed) _ is .0)
         (λ was is. passes-since W (L.closes-at 𝓤 H A W κ q b o γ h _ h refl was) (next-passes h word channel (controlledAt h word channel placed) word-fits channel-fits is (λ r e said. said))))
 
 module _ {M : Type 1} (𝓤 : URA M) (H : Heap 𝓤) (A : Atoms 𝓤) (W : Given 𝓤 H A) (at-mem : Memory → SProp 𝓤) (run : Routine → Fun 𝓤) where

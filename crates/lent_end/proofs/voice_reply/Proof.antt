@@ -11,7 +11,7 @@ use Rattle.mpe_zones.specs.declared.Zones.{Zones}
 use Rattle.mpe_zones.specs.Zones.{roleHeld}
 use Rattle.mpe_receiver.specs.State.{zonesOf}
 use Rattle.receiving_end.specs.declared.end.Reply.the-variants.{Message}
-use Rattle.mpe_zones.specs.Told.{voiceOf}
+use Rattle.mpe_zones.specs.Update.{voiceOf}
 use Rattle.lent_end.specs.Lent.{voiceReply}
 use Rattle.lent_end.proofs.voice_reply.Statement.{statement}
 use Rattle.lent_end.proofs.voice_reply.Tie as tie

@@ -8,8 +8,6 @@ use mathlib.Core.Path.{_≡_}
 use Rattle.ump.proofs.Auto.{auto}
 use Rattle.mpe_receiver.proofs.settles.Statement.{statement}
 use Rattle.mpe_receiver.proofs.settles.Tie as tie
-use Rattle.mpe_receiver.proofs.settles.Reads as reads
-use Rattle.mpe_receiver.proofs.settles.Lts as lts
 use Rattle.mpe_zones.proofs.changes.Reads as changes-reads
 use Rattle.ump.proofs.channel_voice1.first_data.Reads as first-data-reads
 

@@ -3,7 +3,7 @@
 use mathlib.Core.Path.{ap}
 use borrow.Author.Needs.{needs}
 use Rattle.mpe_allocator.specs.declared.MpeNoteAllocator.{MpeNoteAllocator}
-use Rattle.mpe_allocator.specs.declared.NoteOn.the-variants.{Channel}
+use Rattle.mpe_allocator.specs.declared.NoteReply.the-variants.{Channel}
 use Rattle.mpe_allocator.specs.Allocator.{answered}
 use Rattle.mpe_allocator.proofs.MpeNoteAllocator.place.Statement.{statement}
 use Rattle.mpe_allocator.proofs.MpeNoteAllocator.place.Tie as tie

@@ -9,13 +9,13 @@ use Rattle.ump.specs.Outcome.{given}
 is-message-requires : tie.Need-is-message-requires
 is-message-requires c κs = search needs
 
-hear-requires : tie.Need-hear-requires
-hear-requires c κs = search needs
+receive-message-requires : tie.Need-receive-message-requires
+receive-message-requires c κs = search needs
 
 returns : tie.Need-returns
 returns c =
     let b = c .before in
-    let heard = b .hear .ensures in
+    let heard = b .receive-message .ensures in
     let t = sym (b .before .before .is-message .ensures) ∙ b .before .if1 .taken in
     (rw t (ap (λ h. given (h .event)) heard), rw t (ap (λ h. h .receiver) heard))
 
@@ -26,4 +26,4 @@ returns-2 c =
 
 pub receive-spec : {M : Type 1} → statement M
 receive-spec =
-    tie.close (tie.spec is-message-requires hear-requires returns returns-2)
+    tie.close (tie.spec is-message-requires receive-message-requires returns returns-2)

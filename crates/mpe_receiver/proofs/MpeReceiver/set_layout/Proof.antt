@@ -3,7 +3,7 @@
 use mathlib.Core.Path.{ap, sym, _∙_}
 use borrow.Author.Needs.{needs}
 use Rattle.mpe_zones.specs.Zones.{maskIn}
-use Rattle.mpe_receiver.proofs.Parts.{set-told}
+use Rattle.mpe_receiver.proofs.Parts.{set-updated}
 use Rattle.mpe_receiver.proofs.MpeReceiver.set_layout.Statement.{statement}
 use Rattle.mpe_receiver.proofs.MpeReceiver.set_layout.Tie as tie
 
@@ -32,7 +32,7 @@ returns : tie.Need-returns
 returns c =
     let b = c .before .before .before .before in
     let a = b .before .before .before .before .before .args in
-    set-told (a .self) (a .layout)
+    set-updated (a .self) (a .layout)
     (sym (b .before .before .before .before .is-layout .ensures) ∙ b .before .before .before .if1 .taken)
     (b .mask-in .ensures ∙ ap maskIn (b .before .layout-reset .ensures))
     (c .before .before .before .zones .ensures)

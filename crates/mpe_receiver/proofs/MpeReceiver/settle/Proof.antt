@@ -2,13 +2,11 @@
 -- Assumes nothing.
 use borrow.Author.Needs.{needs}
 use mathlib.Core.Path.{ap, _∙_}
-use Rattle.mpe_zones.specs.Told.{resetIn}
+use Rattle.mpe_zones.specs.Update.{resetIn}
 use Rattle.mpe_receiver.specs.State.{withZones}
 use Rattle.mpe_receiver.specs.Receive.{stored, restUpto}
 use Rattle.mpe_receiver.proofs.MpeReceiver.settle.Statement.{statement}
 use Rattle.mpe_receiver.proofs.MpeReceiver.settle.Tie as tie
-use Rattle.mpe_receiver.proofs.MpeReceiver.settle.Reads as reads
-use Rattle.mpe_receiver.proofs.MpeReceiver.settle.Lts as lts
 use Rattle.mpe_receiver.proofs.MpeReceiver.rest_by.Reads as rest-by-reads
 use Rattle.mpe_receiver.proofs.MpeReceiver.store.Reads as store-reads
 use Rattle.mpe_receiver.proofs.MpeReceiver.with_zones.Reads as with-zones-reads

@@ -6,7 +6,7 @@ use mathlib.Core.Bool.{false}
 use mathlib.Core.Path.{_≡_, ap, _∙_}
 use Rattle.mpe_zones.specs.declared.MpeEvent.the-variants.{Layout}
 use Rattle.mpe_zones.specs.Zones.{withLayout, activatedIf, layoutIn, maskIn, announcementResets}
-use Rattle.mpe_zones.specs.Told.{told, announced}
+use Rattle.mpe_zones.specs.Update.{zonesUpdate, announced}
 use Rattle.ump.proofs.Auto.{auto}
 use Rattle.mpe_zones.proofs.Zones.announce.Statement.{statement}
 use Rattle.mpe_zones.proofs.Zones.announce.Tie as tie
@@ -42,8 +42,8 @@ returns-2 c =
     let mask = c .before .mask-in .ensures ∙ ap maskIn (c .before .before .announcement-reset .ensures) in
     let after = c .before .before .before .layout-in .ensures ∙ ap (layoutIn (z .layout)) (c .before .before .before .before .with-mcm .ensures) in
     rw small
-    ((λ i. told (c .activate-if .ensures i) (Layout (mask i)))
-    ∙ ap (λ l. told (activatedIf (a .members) (withLayout z l) (a .zone)) (Layout (announcementResets (z .layout) l (a .zone)))) after)
+    ((λ i. zonesUpdate (c .activate-if .ensures i) (Layout (mask i)))
+    ∙ ap (λ l. zonesUpdate (activatedIf (a .members) (withLayout z l) (a .zone)) (Layout (announcementResets (z .layout) l (a .zone)))) after)
 
 pub announce-spec : {M : Type 1} → statement M
 announce-spec =

@@ -1,7 +1,7 @@
 -- `mpe_zones::Zones::event_on_member` meets its contract: each return is a case of `onMember`.
 -- Assumes nothing.
 use borrow.Author.Needs.{needs}
-use Rattle.mpe_zones.specs.Told.{onMember}
+use Rattle.mpe_zones.specs.Update.{onMember}
 use Rattle.ump.proofs.Auto.{auto}
 use Rattle.mpe_zones.proofs.Zones.event_on_member.Statement.{statement}
 use Rattle.mpe_zones.proofs.Zones.event_on_member.Tie as tie

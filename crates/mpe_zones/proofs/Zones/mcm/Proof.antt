@@ -1,7 +1,7 @@
 -- `mpe_zones::Zones::mcm` meets its contract.
 -- Assumes nothing.
 use borrow.Author.Needs.{needs}
-use Rattle.mpe_zones.specs.Told.{configuredAs}
+use Rattle.mpe_zones.specs.Update.{configuredAs}
 use mathlib.Core.Path.{ap, sym, _∙_}
 use Rattle.mpe_zones.proofs.Zones.mcm.Statement.{statement}
 use Rattle.mpe_zones.proofs.Zones.mcm.Tie as tie

@@ -3,7 +3,7 @@
 use mathlib.Core.Path.{ap, _∙_}
 use borrow.Author.Needs.{needs}
 use Rattle.mpe_zones.specs.Zones.{isLowest}
-use Rattle.mpe_zones.specs.Told.{modeMessage}
+use Rattle.mpe_zones.specs.Update.{modeEvent}
 use Rattle.mpe_zones.proofs.Zones.mode_event_on.Statement.{statement}
 use Rattle.mpe_zones.proofs.Zones.mode_event_on.Tie as tie
 
@@ -20,7 +20,7 @@ returns : tie.Need-returns
 returns c =
     let a = c .before .before .before .before .args in
     c .mode-event .ensures
-    ∙ ap (modeMessage (a .zone)) (c .before .is-lowest .ensures ∙ ap (λ x. isLowest x (a .channel)) (c .before .before .lowest-member .ensures))
+    ∙ ap (modeEvent (a .zone)) (c .before .is-lowest .ensures ∙ ap (λ x. isLowest x (a .channel)) (c .before .before .lowest-member .ensures))
 
 pub mode-event-on-spec : {M : Type 1} → statement M
 mode-event-on-spec =

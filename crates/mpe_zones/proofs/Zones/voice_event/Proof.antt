@@ -2,7 +2,7 @@
 -- Assumes nothing.
 use borrow.Author.Needs.{needs}
 use mathlib.Core.Path.{ap, _∙_}
-use Rattle.mpe_zones.specs.Told.{voiceOnMember}
+use Rattle.mpe_zones.specs.Update.{voiceOnMember}
 use Rattle.mpe_zones.proofs.Zones.voice_event.Statement.{statement}
 use Rattle.mpe_zones.proofs.Zones.voice_event.Tie as tie
 

@@ -2,7 +2,7 @@
 -- Assumes nothing.
 use borrow.Author.Needs.{needs}
 use Rattle.ump.specs.Outcome.{given}
-use Rattle.parameters.specs.State.{heardOf}
+use Rattle.parameters.specs.State.{updateByFields}
 use Rattle.parameters.proofs.ParameterState.receive.Statement.{statement}
 use Rattle.parameters.proofs.ParameterState.receive.Tie as tie
 use mathlib.Core.Path.{sym, _∙_}
@@ -19,16 +19,16 @@ first-data-requires c κs = search needs
 second-data-requires : tie.Need-second-data-requires
 second-data-requires c κs = search needs
 
-hear-requires : tie.Need-hear-requires
-hear-requires c κs = search needs
+receive-fields-requires : tie.Need-receive-fields-requires
+receive-fields-requires c κs = search needs
 
 returns : tie.Need-returns
 returns c =
     let d = c .before .before in
     let o = d .before .before in
     let t = sym (o .before .before .is-message .ensures) ∙ o .before .if1 .taken in
-    let h = c .before .hear .ensures
-    ∙ (λ i. heardOf (o .before .before .before .args .self) (o .opcode .ensures i) (d .before .first-data .ensures i) (d .second-data .ensures i)) in
+    let h = c .before .receive-fields .ensures
+    ∙ (λ i. updateByFields (o .before .before .before .args .self) (o .opcode .ensures i) (d .before .first-data .ensures i) (d .second-data .ensures i)) in
     (rw t (λ i. given (h i .event)), rw t (λ i. h i .state))
 
 returns-2 : tie.Need-returns-2
@@ -44,6 +44,6 @@ receive-spec =
     opcode-requires
     first-data-requires
     second-data-requires
-    hear-requires
+    receive-fields-requires
     returns
     returns-2)

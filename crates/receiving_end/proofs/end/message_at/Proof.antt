@@ -5,7 +5,7 @@ use Rattle.receiving_end.proofs.end.message_at.Statement.{statement}
 use Rattle.receiving_end.proofs.end.message_at.Tie as tie
 use mathlib.Core.Path.{ap, _∙_}
 use Rattle.parameters.specs.State as parameter
-use Rattle.mpe_receiver.specs.Receive.{receivedReply, receivedState}
+use Rattle.mpe_receiver.specs.Receive.{receiverReply, receiverAfter}
 use Rattle.receiving_end.specs.declared.end.Reply.the-variants.{Message}
 use Rattle.receiving_end.specs.End.{withReceiver, withParameter, eventIn, mpeIn, stepped, messageAt}
 
@@ -39,11 +39,11 @@ returns c =
     let a = h .before .before .args in
     let r = a .end .receiver in
     let p = h .before .parameter .ensures in
-    let event = t .before .event-in .ensures ∙ ap eventIn (h .receive .ensures .0 ∙ ap (λ x. parameter.receivedReply x (a .word)) p) in
-    let state = h .receive .ensures .1 ∙ ap (λ x. parameter.receivedState x (a .word)) p in
+    let event = t .before .event-in .ensures ∙ ap eventIn (h .receive .ensures .0 ∙ ap (λ x. parameter.parameterReply x (a .word)) p) in
+    let state = h .receive .ensures .1 ∙ ap (λ x. parameter.parameterAfter x (a .word)) p in
     let end = c .before .with-parameter .ensures ∙ ap (withParameter (a .end) (a .k)) state in
-    let next = t .receive2 .ensures .1 ∙ ap (receivedState r (a .word)) event in
-    let reply = m .mpe-in .ensures ∙ ap mpeIn (t .receive2 .ensures .0 ∙ ap (receivedReply r (a .word)) event) in
+    let next = t .receive2 .ensures .1 ∙ ap (receiverAfter r (a .word)) event in
+    let reply = m .mpe-in .ensures ∙ ap mpeIn (t .receive2 .ensures .0 ∙ ap (receiverReply r (a .word)) event) in
     c .replying .ensures ∙ (λ i. stepped (withReceiver (end i) (next i)) (Message (a .word) (reply i)))
 
 pub message-at-spec : {M : Type 1} → statement M

@@ -1,6 +1,6 @@
 -- `replay::run::Run::answer_all` is safe and ends: each turn reads at least one character.
 -- Assumes nothing.
-use Prim.Native.Nat.{_-_, _≤_}
+use Prim.Native.Nat.{_-_}
 use lib.ListN.{length}
 use borrow.Author.Needs.{needs}
 use Rattle.replay.proofs.run.Run.answer_all.Statement.{statement}

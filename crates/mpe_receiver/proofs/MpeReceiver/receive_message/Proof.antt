@@ -1,9 +1,9 @@
--- `mpe_receiver::MpeReceiver::hear` meets its contract: the zones hear the message, and the receiver is settled with their event.
+-- `mpe_receiver::MpeReceiver::receive` meets its contract: the zones receive the message, and the receiver is settled with their event.
 -- Assumes nothing.
 use borrow.Author.Needs.{needs}
-use Rattle.mpe_receiver.proofs.Parts.{heard-settled}
-use Rattle.mpe_receiver.proofs.MpeReceiver.hear.Statement.{statement}
-use Rattle.mpe_receiver.proofs.MpeReceiver.hear.Tie as tie
+use Rattle.mpe_receiver.proofs.Parts.{received-settled}
+use Rattle.mpe_receiver.proofs.MpeReceiver.receive_message.Statement.{statement}
+use Rattle.mpe_receiver.proofs.MpeReceiver.receive_message.Tie as tie
 
 zones-requires : tie.Need-zones-requires
 zones-requires c κs = search needs
@@ -17,8 +17,8 @@ channel-requires c κs = search needs
 first-data-requires : tie.Need-first-data-requires
 first-data-requires c κs = search needs
 
-hear-requires : tie.Need-hear-requires
-hear-requires c κs = search needs
+receive-requires : tie.Need-receive-requires
+receive-requires c κs = search needs
 
 settle-requires : tie.Need-settle-requires
 settle-requires c κs = search needs
@@ -27,22 +27,22 @@ returns : tie.Need-returns
 returns c =
     let h = c .before .before in
     let a = h .before .before .before .before .before .args in
-    heard-settled (a .self) (a .parameter) (a .word)
+    received-settled (a .self) (a .parameter) (a .word)
     (h .before .before .before .before .zones .ensures)
     (h .before .before .before .opcode .ensures)
     (h .before .before .channel .ensures)
     (h .before .first-data .ensures)
-    (h .hear .ensures)
+    (h .receive .ensures)
     (c .settle .ensures)
 
-pub hear-spec : {M : Type 1} → statement M
-hear-spec =
+pub receive-message-spec : {M : Type 1} → statement M
+receive-message-spec =
     tie.close
     (tie.spec
     zones-requires
     opcode-requires
     channel-requires
     first-data-requires
-    hear-requires
+    receive-requires
     settle-requires
     returns)

@@ -1,8 +1,8 @@
--- `mpe_zones::said_by_rpn` meets its contract.
+-- `mpe_zones::decode_rpn` meets its contract.
 -- Assumes nothing.
 use borrow.Author.Needs.{needs}
-use Rattle.mpe_zones.proofs.said_by_rpn.Statement.{statement}
-use Rattle.mpe_zones.proofs.said_by_rpn.Tie as tie
+use Rattle.mpe_zones.proofs.decode_rpn.Statement.{statement}
+use Rattle.mpe_zones.proofs.decode_rpn.Tie as tie
 use Rattle.ump.proofs.Auto.{auto}
 
 enum-told : tie.Need-enum-told
@@ -59,8 +59,8 @@ returns-9 c = search needs
 returns-10 : tie.Need-returns-10
 returns-10 c = search (auto, c .before .before .before .rpn .given .1)
 
-pub said-by-rpn-spec : {M : Type 1} → statement M
-said-by-rpn-spec =
+pub decode-rpn-spec : {M : Type 1} → statement M
+decode-rpn-spec =
     tie.close
     (tie.spec
     enum-told

@@ -22,63 +22,63 @@ use Rattle.mpe_layout.specs.declared.MpeRole.the-variants as role
 use Rattle.mpe_layout.specs.Layout.{ofLegal, lowestOrNone, membersOf}
 use Rattle.mpe_zones.specs.declared.MpeEvent.{MpeEvent}
 use Rattle.mpe_zones.specs.declared.MpeEvent.the-variants.{NoZone, Zone, Layout, Sensitivity, Mode, Ignored}
-use Rattle.mpe_zones.specs.declared.Said.{Said}
-use Rattle.mpe_zones.specs.declared.Said.the-variants.{Nothing, Configuration, BendSensitivity}
-use Rattle.mpe_zones.specs.declared.Told.{Told}
+use Rattle.mpe_zones.specs.declared.Decoded.{Decoded}
+use Rattle.mpe_zones.specs.declared.Decoded.the-variants.{Nothing, Configuration, BendSensitivity}
+use Rattle.mpe_zones.specs.declared.ZonesUpdate.{ZonesUpdate}
 use Rattle.mpe_zones.specs.declared.Zones.{Zones}
 use Rattle.mpe_zones.specs.Zones.{withLayout, withSensitivities, withMono, monoOf, slotOf, sensitivityPut, isLowest, activatedIf, roleHeld, announcedTo, announcementResets}
 
 -- the parameter of an event that concerns the receiver: RPN 6, the MPE Configuration Message (M1-100 2.2.1), and RPN 0 (2.2.5)
-abbrev pub saidByRpn : Rpn → ParameterEvent → Said
-saidByRpn rpn.PitchBendSensitivity e = BendSensitivity e
-saidByRpn rpn.FineTuning e = Nothing
-saidByRpn rpn.CoarseTuning e = Nothing
-saidByRpn rpn.TuningProgramSelect e = Nothing
-saidByRpn rpn.TuningBankSelect e = Nothing
-saidByRpn rpn.ModulationDepthRange e = Nothing
-saidByRpn rpn.Null e = Nothing
-saidByRpn (rpn.Other m l) e = if eqb m 0 then (if eqb l 6 then Configuration (e .change) else Nothing) else Nothing
+abbrev pub decodedRpn : Rpn → ParameterEvent → Decoded
+decodedRpn rpn.PitchBendSensitivity e = BendSensitivity e
+decodedRpn rpn.FineTuning e = Nothing
+decodedRpn rpn.CoarseTuning e = Nothing
+decodedRpn rpn.TuningProgramSelect e = Nothing
+decodedRpn rpn.TuningBankSelect e = Nothing
+decodedRpn rpn.ModulationDepthRange e = Nothing
+decodedRpn rpn.Null e = Nothing
+decodedRpn (rpn.Other m l) e = if eqb m 0 then (if eqb l 6 then Configuration (e .change) else Nothing) else Nothing
 
-abbrev pub saidByParameter : Parameter → ParameterEvent → Said
-saidByParameter (Registered r) e = saidByRpn r e
-saidByParameter (NonRegistered m l) e = Nothing
+abbrev pub decodedParameter : Parameter → ParameterEvent → Decoded
+decodedParameter (Registered r) e = decodedRpn r e
+decodedParameter (NonRegistered m l) e = Nothing
 
-abbrev pub saidByEvent : MaybeEvent → Said
-saidByEvent NoEvent = Nothing
-saidByEvent (Event e) = saidByParameter (e .parameter) e
+abbrev pub decodedEvent : MaybeEvent → Decoded
+decodedEvent NoEvent = Nothing
+decodedEvent (Event e) = decodedParameter (e .parameter) e
 
 -- an event is used only with a control change
-abbrev pub saidBy : ℕ → MaybeEvent → Said
-saidBy opcode e = if eqb opcode 0xB then saidByEvent e else Nothing
+abbrev pub decoded : ℕ → MaybeEvent → Decoded
+decoded opcode e = if eqb opcode 0xB then decodedEvent e else Nothing
 
-abbrev pub told : Zones → MpeEvent → Told
-told z e = record { zones = z; event = e }
+abbrev pub zonesUpdate : Zones → MpeEvent → ZonesUpdate
+zonesUpdate z e = record { zones = z; event = e }
 
 -- a zone announcement with members 0 to 15 sets the layout and answers the reset mask
-unfoldable pub announced : Zones → MpeZone → ℕ → Told
+unfoldable pub announced : Zones → MpeZone → ℕ → ZonesUpdate
 announced z zone members =
-    if ltb 15 members then told z Ignored else
-    told (activatedIf members (withLayout z (announcedTo (z .layout) zone members)) zone)
+    if ltb 15 members then zonesUpdate z Ignored else
+    zonesUpdate (activatedIf members (withLayout z (announcedTo (z .layout) zone members)) zone)
     (Layout (announcementResets (z .layout) (announcedTo (z .layout) zone members) zone))
 
 -- only the Data Entry MSB announces (M1-100 2.2.1)
-abbrev pub configuredBy : Zones → MpeZone → ParameterChange → Told
+abbrev pub configuredBy : Zones → MpeZone → ParameterChange → ZonesUpdate
 configuredBy z zone (DataEntryMsb members) = announced z zone members
-configuredBy z zone (DataEntryLsb d) = told z Ignored
-configuredBy z zone Increment = told z Ignored
-configuredBy z zone Decrement = told z Ignored
+configuredBy z zone (DataEntryLsb d) = zonesUpdate z Ignored
+configuredBy z zone Increment = zonesUpdate z Ignored
+configuredBy z zone Decrement = zonesUpdate z Ignored
 
 -- on channel 0, Lower's manager, and on 15, Upper's
 abbrev pub announcing : ℕ → MpeRole
 announcing channel = if eqb channel 0 then role.Manager Lower else if eqb channel 15 then role.Manager Upper else role.NoZone
 
-abbrev pub configuredAs : Zones → MpeRole → ParameterChange → Told
-configuredAs z role.NoZone change = told z Ignored
+abbrev pub configuredAs : Zones → MpeRole → ParameterChange → ZonesUpdate
+configuredAs z role.NoZone change = zonesUpdate z Ignored
 configuredAs z (role.Manager zone) change = configuredBy z zone change
-configuredAs z (role.Member zone) change = told z Ignored
+configuredAs z (role.Member zone) change = zonesUpdate z Ignored
 
 -- an MPE Configuration Message
-abbrev pub configured : Zones → ℕ → ParameterChange → Told
+abbrev pub configured : Zones → ℕ → ParameterChange → ZonesUpdate
 configured z channel change = configuredAs z (announcing channel) change
 
 -- RPN 0 in a zone: the manager's sensitivity, or the one that all members share
@@ -96,16 +96,16 @@ sensedEvent role.NoZone = NoZone
 sensedEvent (role.Manager zone) = Sensitivity zone true
 sensedEvent (role.Member zone) = Sensitivity zone false
 
-abbrev pub sensed : Zones → MpeRole → ParameterEvent → Told
-sensed z ro e = told (withSensitivities z (sensedAs (z .sensitivity) ro e)) (sensedEvent ro)
+abbrev pub sensed : Zones → MpeRole → ParameterEvent → ZonesUpdate
+sensed z ro e = zonesUpdate (withSensitivities z (sensedAs (z .sensitivity) ro e)) (sensedEvent ro)
 
 -- program change and bank select reach a member only in mode 4 (M1-100 2.3.3)
 abbrev pub inMode4 : MpeZone → Bool → MpeEvent
 inMode4 zone mono = if mono then Zone zone false else Ignored
 
 -- 126 and 127 set the mode on the lowest member (M1-100 2.2.4.3)
-abbrev pub modeMessage : MpeZone → Bool → MpeEvent
-modeMessage zone lowest = if lowest then Mode zone else Zone zone false
+abbrev pub modeEvent : MpeZone → Bool → MpeEvent
+modeEvent zone lowest = if lowest then Mode zone else Zone zone false
 
 -- a message on a member that is no control change: poly pressure is prohibited (M1-100 2.2.7), program change is for mode 4 (2.3.3)
 abbrev pub voiceOnMember : MpeZone → Bool → ℕ → MpeEvent
@@ -118,8 +118,8 @@ onMember zone mono lowest opcode a =
     if eqb opcode 0xB then
     (if eqb a 0 then inMode4 zone mono else
     if eqb a 32 then inMode4 zone mono else
-    if eqb a 126 then modeMessage zone lowest else
-    if eqb a 127 then modeMessage zone lowest else
+    if eqb a 126 then modeEvent zone lowest else
+    if eqb a 127 then modeEvent zone lowest else
     Zone zone false)
     else voiceOnMember zone mono opcode
 
@@ -128,10 +128,10 @@ abbrev pub isLowestIn : Zones → MpeZone → ℕ → Bool
 isLowestIn z zone channel = isLowest (ofLegal (z .layout) (lowestOrNone zone (membersOf (z .layout) zone))) channel
 
 -- a message by its channel's role, where no parameter event decides
-abbrev pub eventOf : Zones → ℕ → MpeRole → ℕ → ℕ → MpeEvent
-eventOf z channel role.NoZone opcode a = NoZone
-eventOf z channel (role.Manager zone) opcode a = Zone zone true
-eventOf z channel (role.Member zone) opcode a = onMember zone (monoOf z zone) (isLowestIn z zone channel) opcode a
+abbrev pub plainEvent : Zones → ℕ → MpeRole → ℕ → ℕ → MpeEvent
+plainEvent z channel role.NoZone opcode a = NoZone
+plainEvent z channel (role.Manager zone) opcode a = Zone zone true
+plainEvent z channel (role.Member zone) opcode a = onMember zone (monoOf z zone) (isLowestIn z zone channel) opcode a
 
 -- the same of a message that is no control change
 abbrev pub voiceOf : Zones → MpeRole → ℕ → MpeEvent
@@ -149,15 +149,15 @@ modeSet z (Mode y) a = withMono z y (eqb a 126)
 modeSet z Ignored a = z
 
 -- the first case that fits; `plain` is the event where no parameter event decides
-abbrev pub toldAs : Zones → ℕ → MpeRole → MpeEvent → Said → ℕ → Told
-toldAs z channel ro plain (Configuration change) a = configured z channel change
-toldAs z channel ro plain (BendSensitivity e) a = sensed z ro e
-toldAs z channel ro plain Nothing a = told (modeSet z plain a) plain
+abbrev pub updatedAs : Zones → ℕ → MpeRole → MpeEvent → Decoded → ℕ → ZonesUpdate
+updatedAs z channel ro plain (Configuration change) a = configured z channel change
+updatedAs z channel ro plain (BendSensitivity e) a = sensed z ro e
+updatedAs z channel ro plain Nothing a = zonesUpdate (modeSet z plain a) plain
 
 -- a message whose fields are cut, with the event that its channel's parameters gave for it
-abbrev pub messageTold : Zones → MaybeEvent → ℕ → ℕ → ℕ → Told
-messageTold z e opcode channel a =
-    toldAs z channel (roleHeld (z .layout) channel) (eventOf z channel (roleHeld (z .layout) channel) opcode a) (saidBy opcode e) a
+abbrev pub messageUpdate : Zones → MaybeEvent → ℕ → ℕ → ℕ → ZonesUpdate
+messageUpdate z e opcode channel a =
+    updatedAs z channel (roleHeld (z .layout) channel) (plainEvent z channel (roleHeld (z .layout) channel) opcode a) (decoded opcode e) a
 
 -- the channels that an event resets
 abbrev pub resetIn : MpeEvent → ℕ

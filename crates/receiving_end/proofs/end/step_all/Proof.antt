@@ -1,24 +1,24 @@
--- `receiving_end::end::hear` meets its contract.
+-- `receiving_end::end::step_all` meets its contract.
 -- Assumes nothing.
-use Rattle.receiving_end.proofs.end.hear.Statement.{statement}
-use Rattle.receiving_end.proofs.end.hear.Tie as tie
+use Rattle.receiving_end.proofs.end.step_all.Statement.{statement}
+use Rattle.receiving_end.proofs.end.step_all.Tie as tie
 use borrow.Author.Needs.{needs}
 use Prim.Native.Nat.{_≤_, _-_}
 use mathlib.Core.Path.{_≡_, refl, ap, _∙_}
 use native.Mathlib.Omega.{arith}
 use lib.ListN.{length, take}
 use lib.Seq.{take-all}
-use Rattle.receiving_end.specs.Lists.{heard}
-use Rattle.receiving_end.proofs.Bytes.{heard-more}
+use Rattle.receiving_end.specs.Lists.{afterBytes}
+use Rattle.receiving_end.proofs.Bytes.{one-byte-more}
 
 abbrev Inv-loop : tie.InvT-loop
-Inv-loop bytes e₀ i₀ e i = (i ≤ length bytes) × (e ≡ heard e₀ (take i bytes))
+Inv-loop bytes e₀ i₀ e i = (i ≤ length bytes) × (e ≡ afterBytes e₀ (take i bytes))
 
 abbrev μ-loop : tie.MeasureT-loop
 μ-loop bytes e₀ i₀ e i = length bytes - i
 
 loop-holds : tie.Need-loop-holds Inv-loop μ-loop
-unfolding heard
+unfolding afterBytes
 loop-holds c = (omega arith, refl)
 
 shared-slice-read-step : tie.Need-shared-slice-read-step Inv-loop μ-loop
@@ -37,15 +37,15 @@ loop-again : tie.Need-loop-again Inv-loop μ-loop
 loop-again c =
     let a = c .before .before .before .before .before .before .args in
     let i = c .before .before .before .before .loop in
-    (omega arith, c .before .step .ensures .1 ∙ heard-more (a .end) (a .bytes .now) (i .i) (omega arith) (i .inv .1))
+    (omega arith, c .before .step .ensures .1 ∙ one-byte-more (a .end) (a .bytes .now) (i .i) (omega arith) (i .inv .1))
 
 returns : tie.Need-returns Inv-loop μ-loop
 returns c =
     let a = c .before .before .before .args in
-    c .before .loop .inv .1 ∙ ap (λ l. heard (a .end) l) (take-all (c .before .loop .i) (a .bytes .now) (omega arith))
+    c .before .loop .inv .1 ∙ ap (λ l. afterBytes (a .end) l) (take-all (c .before .loop .i) (a .bytes .now) (omega arith))
 
-pub hear-spec : {M : Type 1} → statement M
-hear-spec =
+pub step-all-spec : {M : Type 1} → statement M
+step-all-spec =
     tie.close
     (tie.spec
     Inv-loop

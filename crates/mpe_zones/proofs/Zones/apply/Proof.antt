@@ -1,13 +1,13 @@
--- `mpe_zones::Zones::tell` meets its contract.
+-- `mpe_zones::Zones::apply` meets its contract.
 -- Assumes nothing.
 use mathlib.Core.Path.{ap, sym, _∙_}
 use borrow.Author.Needs.{needs}
-use Rattle.mpe_zones.specs.Told.{toldAs}
-use Rattle.mpe_zones.proofs.Zones.tell.Statement.{statement}
-use Rattle.mpe_zones.proofs.Zones.tell.Tie as tie
+use Rattle.mpe_zones.specs.Update.{updatedAs}
+use Rattle.mpe_zones.proofs.Zones.apply.Statement.{statement}
+use Rattle.mpe_zones.proofs.Zones.apply.Tie as tie
 
-said-by-requires : tie.Need-said-by-requires
-said-by-requires c κs = search needs
+decode-requires : tie.Need-decode-requires
+decode-requires c κs = search needs
 
 enum-told : tie.Need-enum-told
 enum-told c = search needs
@@ -31,25 +31,25 @@ returns : tie.Need-returns
 returns c =
     let a = c .before .before .before .before .args in
     c .plain .ensures
-    ∙ ap (λ s. toldAs (a .self) (a .channel) (a .role) (a .plain) s (a .first)) (sym (c .before .enum-told .given .1) ∙ c .before .before .before .said-by .ensures)
+    ∙ ap (λ s. updatedAs (a .self) (a .channel) (a .role) (a .plain) s (a .first)) (sym (c .before .enum-told .given .1) ∙ c .before .before .before .decode .ensures)
 
 returns-2 : tie.Need-returns-2
 returns-2 c =
     let a = c .before .before .before .before .before .args in
     c .mcm .ensures
-    ∙ ap (λ s. toldAs (a .self) (a .channel) (a .role) (a .plain) s (a .first)) (sym (c .before .before .said .given .1) ∙ c .before .before .before .before .said-by .ensures)
+    ∙ ap (λ s. updatedAs (a .self) (a .channel) (a .role) (a .plain) s (a .first)) (sym (c .before .before .said .given .1) ∙ c .before .before .before .before .decode .ensures)
 
 returns-3 : tie.Need-returns-3
 returns-3 c =
     let a = c .before .before .before .before .before .args in
     c .sense .ensures
-    ∙ ap (λ s. toldAs (a .self) (a .channel) (a .role) (a .plain) s (a .first)) (sym (c .before .before .said2 .given .1) ∙ c .before .before .before .before .said-by .ensures)
+    ∙ ap (λ s. updatedAs (a .self) (a .channel) (a .role) (a .plain) s (a .first)) (sym (c .before .before .said2 .given .1) ∙ c .before .before .before .before .decode .ensures)
 
-pub tell-spec : {M : Type 1} → statement M
-tell-spec =
+pub apply-spec : {M : Type 1} → statement M
+apply-spec =
     tie.close
     (tie.spec
-    said-by-requires
+    decode-requires
     enum-told
     plain-requires
     enum-known-said
