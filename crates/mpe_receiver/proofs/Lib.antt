@@ -1,7 +1,6 @@
 -- Laws that proofs of this crate and of those above it cite.
 pub mod Rest
 pub mod Parts
-pub mod Settle
 pub mod Offsets
 pub mod WellFormed
 pub mod Kept

@@ -1,4 +1,4 @@
--- What a message does to a receiver (document 01, "The receiver"; M1-100 2.2 and 2.3): it is stored, the zones are zonesUpdate, and the channels that its event names are put to rest.
+-- What a message does to a receiver (document 01, "The receiver"; M1-100 2.2 and 2.3): it is stored, the zones are updated, and the channels that its event names are put to rest.
 use Prim.Native.Nat.{ℕ, zero, suc, _+_, _*_}
 use mathlib.Core.Bool.{Bool, true}
 use mathlib.Core.List.{List}
@@ -14,12 +14,10 @@ use Rattle.mpe_layout.specs.Reset.{named}
 use Rattle.mpe_zones.specs.declared.MpeEvent.{MpeEvent}
 use Rattle.mpe_zones.specs.declared.ZonesUpdate.{ZonesUpdate}
 use Rattle.mpe_zones.specs.declared.Zones.{Zones}
-use Rattle.mpe_zones.specs.Zones.{zonesSet, layoutResets}
-use Rattle.mpe_zones.specs.Update.{zonesUpdate, messageUpdate, resetIn, changesBy}
+use Rattle.mpe_zones.specs.Zones.{withZonesOf, layoutResets, zonesSetReply}
+use Rattle.mpe_zones.specs.Update.{zonesUpdate, messageUpdate, resetIn}
 use Rattle.mpe_receiver.specs.declared.MpeReceiver.{MpeReceiver}
 use Rattle.mpe_receiver.specs.declared.ReceiverUpdate.{ReceiverUpdate}
-use Rattle.mpe_receiver.specs.declared.Reply.{Reply}
-use Rattle.mpe_receiver.specs.declared.Reply.the-variants as reply
 use Rattle.mpe_receiver.specs.State.{withBends, withPressures, withBrightnesses, zonesOf, withZones}
 
 abbrev pub receiverUpdate : MpeReceiver → MpeEvent → ReceiverUpdate
@@ -48,22 +46,18 @@ restUpto r mask n =
     (withPressures (withBrightnesses r (putWhere (named mask) 64 (r .brightness) n)) (putWhere (named mask) 0 (r .pressure) n))
     (putWhere (named mask) 0x2000 (r .«pitch_bend») n)
 
--- the receiver with what its zones were zonesUpdate: the channels that the event resets are put to rest
+-- the receiver with an update of its zones: the channels that the event resets are put to rest
 abbrev pub withUpdate : MpeReceiver → ZonesUpdate → ReceiverUpdate
 withUpdate r t = receiverUpdate (restUpto (withZones r (t .zones)) (resetIn (t .event)) 16) (t .event)
 
--- a message whose fields are cut: first its control is stored, then the zones are zonesUpdate
+-- a message whose fields are cut: first its control is stored, then the zones are updated
 unfoldable pub receivedByFields : MpeReceiver → MaybeEvent → ℕ → ℕ → ℕ → ℕ → ReceiverUpdate
 receivedByFields r e opcode channel a b = withUpdate (stored r opcode channel a b) (messageUpdate (zonesOf r) e opcode channel a)
 
 abbrev pub receivedByWord : MpeReceiver → MaybeEvent → ℕ → ReceiverUpdate
 receivedByWord r e w = receivedByFields r e (opcodeOf w) (channelOf w) (firstOf w) (secondOf w)
 
--- what `receive` answers, by document 01's numbers
-abbrev pub receiverReplyRead : Reply → Outcome MpeEvent
-receiverReplyRead (reply.Received e) = given e
-receiverReplyRead reply.OutOfRange = outOfRange
-
+-- what `receive` answers, by document 01's numbers, and the receiver after it
 abbrev pub receiverReply : MpeReceiver → ℕ → MaybeEvent → Outcome MpeEvent
 receiverReply r w e = if wordForm w then given (receivedByWord r e w .event) else outOfRange
 
@@ -72,15 +66,11 @@ receiverAfter r w e = if wordForm w then receivedByWord r e w .receiver else r
 
 -- a layout that the application sets (M1-100 2.2.2, 2.2.3)
 abbrev pub setReply : MpeReceiver → MpeLayout → Outcome ℕ
-setReply r l = if legal l then given (layoutResets (r .layout) l) else outOfRange
+setReply r l = zonesSetReply (zonesOf r) l
 
 abbrev pub setState : MpeReceiver → MpeLayout → MpeReceiver
-setState r l = if legal l then restUpto (withZones r (zonesSet (zonesOf r) l)) (layoutResets (r .layout) l) 16 else r
+setState r l = if legal l then restUpto (withZones r (withZonesOf (zonesOf r) l)) (layoutResets (r .layout) l) 16 else r
 
 -- a message of which the event and the zones after it are known
 abbrev pub settled : MpeReceiver → Zones → ℕ → MpeEvent → MpeReceiver
 settled r z w e = withUpdate (stored r (opcodeOf w) (channelOf w) (firstOf w) (secondOf w)) (zonesUpdate z e) .receiver
-
--- a control change that alters more of a receiver than a brightness
-abbrev pub settlesBy : ℕ → MpeEvent → Bool
-settlesBy w e = if eqb (firstOf w) 121 then true else changesBy e

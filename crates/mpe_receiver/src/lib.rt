@@ -1,28 +1,28 @@
 // The MPE receiver of one MIDI 1.0 input (mpe.rs).
 ghost use mathlib.Core.Path.{_≡_};
 ghost use Prim.Native.Nat.{_<_};
+ghost use lib.IntN.{ℤ};
+ghost use Rattle.ump.specs.Outcome.{given};
 ghost use Rattle.mpe_layout.specs.Reset.{maskFound};
-ghost use Rattle.mpe_zones.specs.Update.{resetIn};
+ghost use Rattle.mpe_pitch.specs.Claims.{Within};
+ghost use Rattle.mpe_zones.specs.Update.{mpeReplyRead, resetIn};
 ghost use Rattle.mpe_receiver.specs.State.{newReceiver, zonesOf, withZones};
-ghost use Rattle.mpe_receiver.specs.Receive.{stored, restUpto, receivedByWord, receiverReplyRead, receiverReply, receiverAfter, setReply, setState, settlesBy, settled};
+ghost use Rattle.mpe_receiver.specs.Receive.{stored, restUpto, receivedByWord, receiverReply, receiverAfter, setReply, setState, settled};
 ghost use Rattle.mpe_receiver.specs.Read.{modeOf, sensitivityOf, bendAt, pressureAt, brightnessAt, managerOffset, memberOffset, offsetByRole, offsetOf, offsetRead};
 use mpe_layout::MpeLayout;
 use mpe_layout::MpeRole;
 use mpe_layout::MpeZone;
 use mpe_layout::ResetMask;
-use mpe_layout::layout_reset;
 use mpe_layout::names;
 use mpe_pitch::MpeSensitivity;
 use mpe_pitch::pitch_offset;
 use mpe_zones::MpeEvent;
+use mpe_zones::MpeReply;
 use mpe_zones::Zones;
-use mpe_zones::changes;
-use mpe_zones::mask_in;
 use mpe_zones::reset_in;
 use parameters::MaybeEvent;
 use ump::channel_voice1::channel;
 use ump::channel_voice1::first_data;
-use ump::channel_voice1::is_message;
 use ump::channel_voice1::opcode;
 use ump::channel_voice1::second_data;
 
@@ -45,15 +45,10 @@ pub struct ReceiverUpdate {
     pub event: MpeEvent,
 }
 
-// What `receive` answers.
-pub enum Reply {
-    Received(MpeEvent),
-    OutOfRange,
-}
-
+// What `receive` gives.
 pub struct Received {
     pub receiver: MpeReceiver,
-    pub reply: Reply,
+    pub reply: MpeReply,
 }
 
 // What `set_layout` gives.
@@ -66,16 +61,6 @@ pub struct LayoutSet {
 pub enum Offset {
     Offset(i32),
     NoRole,
-}
-
-// A control change alters more of a receiver than a brightness: it is 121, or the zones change.
-pub fn settles(word: u32, event: MpeEvent) -> bool
-    ensures { λ r. ⌜ r ≡ settlesBy word event ⌝ }
-{
-    if first_data(word) == 121 {
-        return true;
-    }
-    changes(event)
 }
 
 impl MpeReceiver {
@@ -182,7 +167,7 @@ impl MpeReceiver {
     }
 
     // A message is stored, the zones become these, and the channels that its event resets are put to rest.
-    pub fn settle(self, zones: Zones, word: u32, event: MpeEvent) -> MpeReceiver
+    fn settle(self, zones: Zones, word: u32, event: MpeEvent) -> MpeReceiver
         ensures { λ r. ⌜ r ≡ settled self zones word event ⌝ }
     {
         let s = self.store(
@@ -194,56 +179,49 @@ impl MpeReceiver {
         s.with_zones(zones).rest_by(event)
     }
 
-    // A word that is a message: the zones hear it, and the receiver is settled with their event.
-    fn receive_message(self, parameter: MaybeEvent, word: u32) -> ReceiverUpdate
-        ensures { λ r. ⌜ r ≡ receivedByWord self parameter word ⌝ }
-    {
-        let t = self.zones()
-            .receive(parameter, opcode(word), channel(word), first_data(word));
-        let zones = t.zones;
-        let event = t.event;
-        let r = self.settle(zones, word, event);
-        ReceiverUpdate { receiver: r, event }
-    }
-
     // One message, with the event that its channel's parameters gave for it. A word that is no message is out of range.
     pub fn receive(self, word: u32, parameter: MaybeEvent) -> Received
-        ensures reply { λ r. ⌜ receiverReplyRead (r .reply) ≡ receiverReply self word parameter ⌝ }
+        ensures reply { λ r. ⌜ mpeReplyRead (r .reply) ≡ receiverReply self word parameter ⌝ }
         ensures state { λ r. ⌜ r .receiver ≡ receiverAfter self word parameter ⌝ }
     {
-        if is_message(word) {
-            let h = self.receive_message(parameter, word);
-            let s = h.receiver;
-            let e = h.event;
-            return Received {
-                receiver: s,
-                reply: Reply::Received(e),
-            };
-        }
-        Received {
-            receiver: self,
-            reply: Reply::OutOfRange,
+        let update = self.zones().receive(word, parameter);
+        let zones = update.zones;
+        let reply = update.reply;
+        match reply {
+            MpeReply::Received(event) => {
+                let r = self.settle(zones, word, event);
+                Received {
+                    receiver: r,
+                    reply: MpeReply::Received(event),
+                }
+            }
+            MpeReply::OutOfRange => Received {
+                receiver: self,
+                reply: MpeReply::OutOfRange,
+            },
         }
     }
 
-    // A layout that the application sets.
+    // A layout that the application sets. An illegal one is out of range.
     pub fn set_layout(self, layout: MpeLayout) -> LayoutSet
         ensures reply { λ r. ⌜ maskFound (r .reply) ≡ setReply self layout ⌝ }
         ensures state { λ r. ⌜ r .receiver ≡ setState self layout ⌝ }
     {
-        if layout.is_layout() {
-            let before = self.layout;
-            let mask = mask_in(layout_reset(before, layout));
-            let zones = self.zones().lay_out(layout);
-            let r = self.with_zones(zones).rest(mask);
-            return LayoutSet {
-                receiver: r,
-                reply: ResetMask::Mask(mask),
-            };
-        }
-        LayoutSet {
-            receiver: self,
-            reply: ResetMask::OutOfRange,
+        let set = self.zones().set_layout(layout);
+        let zones = set.zones;
+        let reply = set.reply;
+        match reply {
+            ResetMask::Mask(mask) => {
+                let r = self.with_zones(zones).rest(mask);
+                LayoutSet {
+                    receiver: r,
+                    reply: ResetMask::Mask(mask),
+                }
+            }
+            ResetMask::OutOfRange => LayoutSet {
+                receiver: self,
+                reply: ResetMask::OutOfRange,
+            },
         }
     }
 
@@ -324,7 +302,8 @@ impl MpeReceiver {
 
     // The offset of a channel in hundredths of a cent: a member's is added to its manager's.
     pub fn pitch_offset(self, channel: u8) -> Offset
-        ensures { λ r. ⌜ offsetRead r ≡ offsetOf self channel ⌝ }
+        ensures is { λ r. ⌜ offsetRead r ≡ offsetOf self channel ⌝ }
+        ensures within { λ r. ⌜ ((z : ℤ) → offsetRead r ≡ given z → Within 2565714 2565400 z) ⌝ }
     {
         self.offset_by_role(channel, self.zones().role(channel))
     }

@@ -20,12 +20,14 @@ use Rattle.mpe_layout.specs.declared.MpeRole.{MpeRole}
 use Rattle.mpe_layout.specs.declared.MpeRole.the-variants as role
 use Rattle.mpe_zones.specs.declared.MpeEvent.{MpeEvent}
 use Rattle.mpe_zones.specs.declared.MpeEvent.the-variants.{NoZone, Zone, Layout, Sensitivity, Mode, Ignored}
+use Rattle.mpe_zones.specs.declared.AnnouncedZone.{AnnouncedZone}
+use Rattle.mpe_zones.specs.declared.AnnouncedZone.the-variants.{Announced, NoneAnnounced}
 use Rattle.mpe_zones.specs.declared.Decoded.{Decoded}
 use Rattle.mpe_zones.specs.declared.Decoded.the-variants.{Nothing, Configuration, BendSensitivity}
 use Rattle.mpe_zones.specs.declared.ZonesUpdate.{ZonesUpdate}
 use Rattle.mpe_zones.specs.declared.Zones.{Zones}
 use Rattle.mpe_zones.specs.Zones.{withSensitivities, withMono, monoOf, slotOf, zoneSensitivity, roleHeld}
-use Rattle.mpe_zones.specs.Update.{zonesUpdate, announced, configuredBy, configuredAs, announcing, sensitivityApplied, sensed, inMode4, modeEvent, onMember, plainEvent, modeSet, decoded, updatedAs, messageUpdate, resetIn, changesBy}
+use Rattle.mpe_zones.specs.Update.{zonesUpdate, announced, configuredBy, configuredAs, announcedOn, sensitivityApplied, sensed, inMode4, modeEvent, onMember, plainEvent, modeSet, decoded, updatedAs, messageUpdate, resetIn, changesBy}
 use Rattle.mpe_zones.specs.WellFormed.{ZonesFormed}
 use Rattle.mpe_zones.specs.Claims.{monoAfter}
 use Rattle.mpe_zones.proofs.Slots.{slot-fits, slot-even, put-same, put-other}
@@ -93,7 +95,7 @@ module _ (z : Zones) (zone : MpeZone) (mono lowest : Bool) where
       (λ e. by-test (eqb opcode 0xC) (λ f. rw (eqb-true opcode 0xC f) (by-mode a))
       (λ f. rw (e, f, g) (sym (mono-same z zone)))))
 
--- the events that apply of no change of the zones reset no channel
+-- the events that report no change of the zones reset no channel
 pub none-reset : (e : MpeEvent) → changesBy e ≡ false → resetIn e ≡ 0
 none-reset NoZone f = refl
 none-reset (Zone y m) f = refl
@@ -123,10 +125,9 @@ module _ (z : Zones) where
   change-kept zone Increment = stays Ignored
   change-kept zone Decrement = stays Ignored
 
-  configured-kept : (ro : MpeRole) (change : ParameterChange) → Kept z (configuredAs z ro change)
-  configured-kept role.NoZone change = stays Ignored
-  configured-kept (role.Manager zone) change = change-kept zone change
-  configured-kept (role.Member zone) change = stays Ignored
+  configured-kept : (on : AnnouncedZone) (change : ParameterChange) → Kept z (configuredAs z on change)
+  configured-kept NoneAnnounced change = stays Ignored
+  configured-kept (Announced zone) change = change-kept zone change
 
   sensed-kept : (ro : MpeRole) (e : ParameterEvent) → Kept z (sensed z ro e)
   sensed-kept role.NoZone e = stays NoZone
@@ -141,8 +142,8 @@ module _ (z : Zones) where
   mode-kept (Mode y) a = changes refl
   mode-kept Ignored a = stays Ignored
 
-  decoded-kept : (channel : ℕ) (ro : MpeRole) (plain : MpeEvent) (said : Decoded) (a : ℕ) → Kept z (updatedAs z channel ro plain said a)
-  decoded-kept channel ro plain (Configuration change) a = configured-kept (announcing channel) change
+  decoded-kept : (channel : ℕ) (ro : MpeRole) (plain : MpeEvent) (d : Decoded) (a : ℕ) → Kept z (updatedAs z channel ro plain d a)
+  decoded-kept channel ro plain (Configuration change) a = configured-kept (announcedOn channel) change
   decoded-kept channel ro plain (BendSensitivity e) a = sensed-kept ro e
   decoded-kept channel ro plain Nothing a = mode-kept plain a
 
@@ -154,7 +155,7 @@ module _ (z : Zones) where
 abbrev pub NoMode : ℕ → ℕ → Type 0
 NoMode o a = (o ≡ 0xB → (a ≡ 126 → ⊥) × (a ≡ 127 → ⊥))
 
--- where no parameter event decides it tells of no change
+-- where no parameter event decides, its event reports no change
 abbrev Still : MpeEvent → Type 0
 Still e = changesBy e ≡ false
 
@@ -177,7 +178,7 @@ event-still z channel role.NoZone o a n = refl
 event-still z channel (role.Manager zone) o a n = refl
 event-still z channel (role.Member zone) o a n = member-still zone _ _ o a n
 
--- with no parameter event a message is zonesUpdate by its channel's role
+-- with no parameter event a message acts by its channel's role
 pub plain-update : (z : Zones) (o channel a : ℕ)
     → messageUpdate z NoEvent o channel a
     ≡ zonesUpdate (modeSet z (plainEvent z channel (roleHeld (z .layout) channel) o a) a) (plainEvent z channel (roleHeld (z .layout) channel) o a)

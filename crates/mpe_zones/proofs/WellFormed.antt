@@ -20,12 +20,14 @@ use Rattle.mpe_layout.specs.Layout.{legal}
 use Rattle.mpe_layout.proofs.Mcm.{mcm-legal}
 use Rattle.mpe_zones.specs.declared.MpeEvent.{MpeEvent}
 use Rattle.mpe_zones.specs.declared.MpeEvent.the-variants.{NoZone, Zone, Layout, Sensitivity, Mode, Ignored}
+use Rattle.mpe_zones.specs.declared.AnnouncedZone.{AnnouncedZone}
+use Rattle.mpe_zones.specs.declared.AnnouncedZone.the-variants.{Announced, NoneAnnounced}
 use Rattle.mpe_zones.specs.declared.Decoded.{Decoded}
 use Rattle.mpe_zones.specs.declared.Decoded.the-variants.{Nothing, Configuration, BendSensitivity}
 use Rattle.mpe_zones.specs.declared.ZonesUpdate.{ZonesUpdate}
 use Rattle.mpe_zones.specs.declared.Zones.{Zones}
-use Rattle.mpe_zones.specs.Zones.{withLayout, withSensitivities, withMono, activated, activatedIf, zonesSet, announcedTo, roleHeld}
-use Rattle.mpe_zones.specs.Update.{announced, configuredBy, configuredAs, announcing, sensed, modeSet, plainEvent, decoded, updatedAs, messageUpdate}
+use Rattle.mpe_zones.specs.Zones.{withLayout, withSensitivities, withMono, activated, activatedIf, withZonesOf, announcedTo, roleHeld}
+use Rattle.mpe_zones.specs.Update.{announced, configuredBy, configuredAs, announcedOn, sensed, modeSet, plainEvent, decoded, updatedAs, messageUpdate}
 use Rattle.mpe_zones.specs.WellFormed.{ZonesFormed}
 
 module _ (z : Zones) (w : ZonesFormed z) where
@@ -46,7 +48,7 @@ activated-formed z zone w = mono-formed _ (sensitivities-formed z w _ (simp leng
 activated-if-formed : (members : ℕ) (z : Zones) (zone : MpeZone) → ZonesFormed z → ZonesFormed (activatedIf members z zone)
 activated-if-formed members z zone w = of-both ZonesFormed (ltb 0 members) (activated-formed z zone w) w
 
-pub laid-out-formed : (z : Zones) (l : MpeLayout) → ZonesFormed z → legal l ≡ true → ZonesFormed (zonesSet z l)
+pub laid-out-formed : (z : Zones) (l : MpeLayout) → ZonesFormed z → legal l ≡ true → ZonesFormed (withZonesOf z l)
 laid-out-formed z l w h =
     activated-if-formed (l .upper) _ Upper (activated-if-formed (l .lower) _ Lower (laid-formed z w l h))
 
@@ -70,10 +72,9 @@ module _ (z : Zones) (w : ZonesFormed z) where
   change-formed zone Increment = w
   change-formed zone Decrement = w
 
-  configured-formed : (ro : MpeRole) (change : ParameterChange) → UpdateFormed (configuredAs z ro change)
-  configured-formed role.NoZone change = w
-  configured-formed (role.Manager zone) change = change-formed zone change
-  configured-formed (role.Member zone) change = w
+  configured-formed : (on : AnnouncedZone) (change : ParameterChange) → UpdateFormed (configuredAs z on change)
+  configured-formed NoneAnnounced change = w
+  configured-formed (Announced zone) change = change-formed zone change
 
   sensed-formed : (ro : MpeRole) (e : ParameterEvent) → UpdateFormed (sensed z ro e)
   sensed-formed role.NoZone e = w
@@ -88,8 +89,8 @@ module _ (z : Zones) (w : ZonesFormed z) where
   mode-formed (Mode y) a = mono-formed z w y (eqb a 126)
   mode-formed Ignored a = w
 
-  decoded-formed : (channel : ℕ) (ro : MpeRole) (plain : MpeEvent) (said : Decoded) (a : ℕ) → UpdateFormed (updatedAs z channel ro plain said a)
-  decoded-formed channel ro plain (Configuration change) a = configured-formed (announcing channel) change
+  decoded-formed : (channel : ℕ) (ro : MpeRole) (plain : MpeEvent) (d : Decoded) (a : ℕ) → UpdateFormed (updatedAs z channel ro plain d a)
+  decoded-formed channel ro plain (Configuration change) a = configured-formed (announcedOn channel) change
   decoded-formed channel ro plain (BendSensitivity e) a = sensed-formed ro e
   decoded-formed channel ro plain Nothing a = mode-formed plain a
 

@@ -5,6 +5,8 @@ use mathlib.Core.List.{List}
 use lib.ListN.{getD}
 use lib.Dec.{ltb, eqb}
 use Rattle.ump.specs.Choice.{if_then_else_}
+use Rattle.ump.specs.Outcome.{Outcome, given, outOfRange}
+use Rattle.ump.specs.Word.{opcodeOf, channelOf, firstOf, wordForm}
 use Rattle.ump.specs.declared.controller.Rpn.{Rpn}
 use Rattle.ump.specs.declared.controller.Rpn.the-variants as rpn
 use Rattle.parameter_event.specs.Apply.{applied}
@@ -22,6 +24,10 @@ use Rattle.mpe_layout.specs.declared.MpeRole.the-variants as role
 use Rattle.mpe_layout.specs.Layout.{ofLegal, lowestOrNone, membersOf}
 use Rattle.mpe_zones.specs.declared.MpeEvent.{MpeEvent}
 use Rattle.mpe_zones.specs.declared.MpeEvent.the-variants.{NoZone, Zone, Layout, Sensitivity, Mode, Ignored}
+use Rattle.mpe_zones.specs.declared.MpeReply.{MpeReply}
+use Rattle.mpe_zones.specs.declared.MpeReply.the-variants as reply
+use Rattle.mpe_zones.specs.declared.AnnouncedZone.{AnnouncedZone}
+use Rattle.mpe_zones.specs.declared.AnnouncedZone.the-variants.{Announced, NoneAnnounced}
 use Rattle.mpe_zones.specs.declared.Decoded.{Decoded}
 use Rattle.mpe_zones.specs.declared.Decoded.the-variants.{Nothing, Configuration, BendSensitivity}
 use Rattle.mpe_zones.specs.declared.ZonesUpdate.{ZonesUpdate}
@@ -68,18 +74,17 @@ configuredBy z zone (DataEntryLsb d) = zonesUpdate z Ignored
 configuredBy z zone Increment = zonesUpdate z Ignored
 configuredBy z zone Decrement = zonesUpdate z Ignored
 
--- on channel 0, Lower's manager, and on 15, Upper's
-abbrev pub announcing : ℕ → MpeRole
-announcing channel = if eqb channel 0 then role.Manager Lower else if eqb channel 15 then role.Manager Upper else role.NoZone
+-- the zone that a channel announces: channel 0 Lower, channel 15 Upper (M1-100 2.2.1)
+abbrev pub announcedOn : ℕ → AnnouncedZone
+announcedOn channel = if eqb channel 0 then Announced Lower else if eqb channel 15 then Announced Upper else NoneAnnounced
 
-abbrev pub configuredAs : Zones → MpeRole → ParameterChange → ZonesUpdate
-configuredAs z role.NoZone change = zonesUpdate z Ignored
-configuredAs z (role.Manager zone) change = configuredBy z zone change
-configuredAs z (role.Member zone) change = zonesUpdate z Ignored
+abbrev pub configuredAs : Zones → AnnouncedZone → ParameterChange → ZonesUpdate
+configuredAs z NoneAnnounced change = zonesUpdate z Ignored
+configuredAs z (Announced zone) change = configuredBy z zone change
 
 -- an MPE Configuration Message
 abbrev pub configured : Zones → ℕ → ParameterChange → ZonesUpdate
-configured z channel change = configuredAs z (announcing channel) change
+configured z channel change = configuredAs z (announcedOn channel) change
 
 -- RPN 0 in a zone: the manager's sensitivity, or the one that all members share
 abbrev pub sensitivityApplied : List ℕ → ℕ → ParameterEvent → List ℕ
@@ -108,8 +113,8 @@ abbrev pub modeEvent : MpeZone → Bool → MpeEvent
 modeEvent zone lowest = if lowest then Mode zone else Zone zone false
 
 -- a message on a member that is no control change: poly pressure is prohibited (M1-100 2.2.7), program change is for mode 4 (2.3.3)
-abbrev pub voiceOnMember : MpeZone → Bool → ℕ → MpeEvent
-voiceOnMember zone mono opcode =
+abbrev pub otherOnMember : MpeZone → Bool → ℕ → MpeEvent
+otherOnMember zone mono opcode =
     if eqb opcode 0xA then Ignored else if eqb opcode 0xC then inMode4 zone mono else Zone zone false
 
 -- a message on a member, by the zone's mode and whether the member is the lowest (document 01, "The receiver", 4 to 6)
@@ -121,7 +126,7 @@ onMember zone mono lowest opcode a =
     if eqb a 126 then modeEvent zone lowest else
     if eqb a 127 then modeEvent zone lowest else
     Zone zone false)
-    else voiceOnMember zone mono opcode
+    else otherOnMember zone mono opcode
 
 -- the channel is that of the zone's lowest member, which takes the mode messages (M1-100 2.2.4.3)
 abbrev pub isLowestIn : Zones → MpeZone → ℕ → Bool
@@ -132,12 +137,6 @@ abbrev pub plainEvent : Zones → ℕ → MpeRole → ℕ → ℕ → MpeEvent
 plainEvent z channel role.NoZone opcode a = NoZone
 plainEvent z channel (role.Manager zone) opcode a = Zone zone true
 plainEvent z channel (role.Member zone) opcode a = onMember zone (monoOf z zone) (isLowestIn z zone channel) opcode a
-
--- the same of a message that is no control change
-abbrev pub voiceOf : Zones → MpeRole → ℕ → MpeEvent
-voiceOf z role.NoZone opcode = NoZone
-voiceOf z (role.Manager zone) opcode = Zone zone true
-voiceOf z (role.Member zone) opcode = voiceOnMember zone (monoOf z zone) opcode
 
 -- only an event of mode alters the modes: 126 is mono, 127 poly
 abbrev pub modeSet : Zones → MpeEvent → ℕ → Zones
@@ -159,6 +158,21 @@ abbrev pub messageUpdate : Zones → MaybeEvent → ℕ → ℕ → ℕ → Zone
 messageUpdate z e opcode channel a =
     updatedAs z channel (roleHeld (z .layout) channel) (plainEvent z channel (roleHeld (z .layout) channel) opcode a) (decoded opcode e) a
 
+-- the same of a word
+abbrev pub wordUpdate : Zones → MaybeEvent → ℕ → ZonesUpdate
+wordUpdate z e w = messageUpdate z e (opcodeOf w) (channelOf w) (firstOf w)
+
+-- what a word gets, by document 01's numbers: one without the form of a message is out of range, and leaves the zones as they are
+abbrev pub mpeReplyRead : MpeReply → Outcome MpeEvent
+mpeReplyRead (reply.Received e) = given e
+mpeReplyRead reply.OutOfRange = outOfRange
+
+abbrev pub zonesReply : Zones → ℕ → MaybeEvent → Outcome MpeEvent
+zonesReply z w e = if wordForm w then given (wordUpdate z e w .event) else outOfRange
+
+abbrev pub zonesAfter : Zones → ℕ → MaybeEvent → Zones
+zonesAfter z w e = if wordForm w then wordUpdate z e w .zones else z
+
 -- the channels that an event resets
 abbrev pub resetIn : MpeEvent → ℕ
 resetIn NoZone = 0
@@ -168,7 +182,7 @@ resetIn (Sensitivity z m) = 0
 resetIn (Mode z) = 0
 resetIn Ignored = 0
 
--- an event that tells of a change of the zones
+-- an event that reports a change of the zones
 abbrev pub changesBy : MpeEvent → Bool
 changesBy NoZone = false
 changesBy (Zone z m) = false

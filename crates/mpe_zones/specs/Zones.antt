@@ -12,7 +12,7 @@ use Rattle.mpe_layout.specs.declared.MpeZone.the-variants.{Lower, Upper}
 use Rattle.mpe_layout.specs.declared.MpeRole.{MpeRole}
 use Rattle.mpe_layout.specs.declared.MpeRole.the-variants.{NoZone}
 use Rattle.mpe_layout.specs.declared.MpeLayout.{MpeLayout}
-use Rattle.mpe_layout.specs.Layout.{ofLegal, roleOf, withMcm}
+use Rattle.mpe_layout.specs.Layout.{legal, ofLegal, roleOf, withMcm}
 use Rattle.mpe_layout.specs.Reset.{announcementMask, layoutMask}
 use Rattle.mpe_pitch.specs.declared.MpeSensitivity.{MpeSensitivity}
 use Rattle.mpe_pitch.specs.Pitch.{managerDefault, memberDefault}
@@ -69,8 +69,8 @@ abbrev pub activatedIf : ℕ → Zones → MpeZone → Zones
 activatedIf members z zone = if ltb 0 members then activated z zone else z
 
 -- the layout changes, and each zone with members is activated (M1-100 2.2.2, 2.2.3)
-abbrev pub zonesSet : Zones → MpeLayout → Zones
-zonesSet z l = activatedIf (l .upper) (activatedIf (l .lower) (withLayout z l) Lower) Upper
+abbrev pub withZonesOf : Zones → MpeLayout → Zones
+withZonesOf z l = activatedIf (l .upper) (activatedIf (l .lower) (withLayout z l) Lower) Upper
 
 -- what the layout held gives; from a new receiver on it is legal, so that nothing declines
 abbrev pub roleIn : Outcome MpeRole → MpeRole
@@ -100,3 +100,10 @@ announcementResets before after zone = maskIn (ofLegal before (ofLegal after (gi
 
 abbrev pub layoutResets : MpeLayout → MpeLayout → ℕ
 layoutResets before after = maskIn (ofLegal before (ofLegal after (given (layoutMask before after))))
+
+-- what `set_layout` answers, and the zones after it: an illegal layout is out of range, and leaves them as they are
+abbrev pub zonesSetReply : Zones → MpeLayout → Outcome ℕ
+zonesSetReply z l = ofLegal l (given (layoutResets (z .layout) l))
+
+abbrev pub zonesSet : Zones → MpeLayout → Zones
+zonesSet z l = if legal l then withZonesOf z l else z

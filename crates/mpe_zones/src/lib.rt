@@ -3,8 +3,9 @@ ghost use mathlib.Core.Path.{_≡_};
 ghost use Prim.Native.Nat.{_<_, _*_, _+_};
 ghost use Rattle.mpe_layout.specs.Layout.{layoutMade, roleFound, lowestFound};
 ghost use Rattle.mpe_layout.specs.Reset.{maskFound};
-ghost use Rattle.mpe_zones.specs.Zones.{withMono, monoOf, slotOf, sensitivityAt, sensitivityPut, zoneSensitivity, activated, activatedIf, roleIn, roleHeld, layoutIn, maskIn, isLowest, zonesSet};
-ghost use Rattle.mpe_zones.specs.Update.{decodedRpn, decodedParameter, decodedEvent, decoded, zonesUpdate, announced, configuredBy, configured, announcing, sensitivityApplied, sensedAs, sensed, sensedEvent, inMode4, modeEvent, voiceOnMember, isLowestIn, onMember, plainEvent, voiceOf, modeSet, updatedAs, messageUpdate, resetIn, changesBy};
+ghost use Rattle.parameters.specs.declared.MaybeEvent.the-variants.{NoEvent};
+ghost use Rattle.mpe_zones.specs.Zones.{withMono, monoOf, slotOf, sensitivityAt, sensitivityPut, zoneSensitivity, activated, activatedIf, roleIn, roleHeld, layoutIn, maskIn, isLowest, withZonesOf, zonesSetReply, zonesSet};
+ghost use Rattle.mpe_zones.specs.Update.{decodedRpn, decodedParameter, decodedEvent, decoded, zonesUpdate, announced, configuredBy, configured, announcedOn, sensitivityApplied, sensedAs, sensed, sensedEvent, inMode4, modeEvent, otherOnMember, isLowestIn, onMember, plainEvent, modeSet, updatedAs, messageUpdate, mpeReplyRead, zonesReply, zonesAfter, resetIn};
 use mpe_layout::FoundRole;
 use mpe_layout::LowestMember;
 use mpe_layout::MadeLayout;
@@ -13,11 +14,16 @@ use mpe_layout::MpeRole;
 use mpe_layout::MpeZone;
 use mpe_layout::ResetMask;
 use mpe_layout::announcement_reset;
+use mpe_layout::layout_reset;
 use mpe_pitch::MpeSensitivity;
 use parameter_event::Parameter;
 use parameter_event::ParameterChange;
 use parameter_event::ParameterEvent;
 use parameters::MaybeEvent;
+use ump::channel_voice1::channel;
+use ump::channel_voice1::first_data;
+use ump::channel_voice1::is_message;
+use ump::channel_voice1::opcode;
 use ump::controller::Rpn;
 
 // What one message gives.
@@ -36,7 +42,13 @@ pub enum MpeEvent {
     Ignored,
 }
 
-// What a parameter event says to the receiver.
+// What a receiver answers to a message.
+pub enum MpeReply {
+    Received(MpeEvent),
+    OutOfRange,
+}
+
+// What a parameter event is to the receiver.
 enum Decoded {
     Nothing,
     // RPN 6, the MPE Configuration Message.
@@ -57,6 +69,24 @@ pub struct Zones {
 pub struct ZonesUpdate {
     pub zones: Zones,
     pub event: MpeEvent,
+}
+
+// What `receive` gives.
+pub struct ZonesReceived {
+    pub zones: Zones,
+    pub reply: MpeReply,
+}
+
+// What `set_layout` gives.
+pub struct ZonesLayoutSet {
+    pub zones: Zones,
+    pub reply: ResetMask,
+}
+
+// The zone that a channel announces.
+enum AnnouncedZone {
+    NoneAnnounced,
+    Announced(MpeZone),
 }
 
 fn decode_rpn(rpn: Rpn, event: ParameterEvent) -> Decoded
@@ -104,7 +134,7 @@ fn decode_event(parameter: MaybeEvent) -> Decoded
     }
 }
 
-// What an event says with a message of this opcode.
+// What an event is with a message of this opcode.
 fn decode(opcode: u8, parameter: MaybeEvent) -> Decoded
     ensures { λ r. ⌜ r ≡ decoded opcode parameter ⌝ }
 {
@@ -133,7 +163,7 @@ fn layout_in(layout: MpeLayout, made: MadeLayout) -> MpeLayout
 }
 
 // The channels of a mask, or none.
-pub fn mask_in(found: ResetMask) -> u16
+fn mask_in(found: ResetMask) -> u16
     ensures { λ r. ⌜ r ≡ maskIn (maskFound found) ⌝ }
 {
     match found {
@@ -228,8 +258,8 @@ fn event_in_mode_4(zone: MpeZone, mono: bool) -> MpeEvent
 }
 
 // A message on a member that is no control change, by the zone's mode.
-fn voice_on_member(zone: MpeZone, mono: bool, opcode: u8) -> MpeEvent
-    ensures { λ r. ⌜ r ≡ voiceOnMember zone mono opcode ⌝ }
+fn other_on_member(zone: MpeZone, mono: bool, opcode: u8) -> MpeEvent
+    ensures { λ r. ⌜ r ≡ otherOnMember zone mono opcode ⌝ }
 {
     if opcode == 0xA {
         return MpeEvent::Ignored;
@@ -284,16 +314,16 @@ fn sensitivity_event(role: MpeRole) -> MpeEvent
 }
 
 // Channel 0 announces Lower, and channel 15 Upper.
-fn announcing_role(channel: u8) -> MpeRole
-    ensures { λ r. ⌜ r ≡ announcing channel ⌝ }
+fn announced_on(channel: u8) -> AnnouncedZone
+    ensures { λ r. ⌜ r ≡ announcedOn channel ⌝ }
 {
     if channel == 0 {
-        return MpeRole::Manager(MpeZone::Lower);
+        return AnnouncedZone::Announced(MpeZone::Lower);
     }
     if channel == 15 {
-        return MpeRole::Manager(MpeZone::Upper);
+        return AnnouncedZone::Announced(MpeZone::Upper);
     }
-    MpeRole::NoZone
+    AnnouncedZone::NoneAnnounced
 }
 
 // The channels that an event resets.
@@ -313,26 +343,6 @@ pub fn reset_in(event: MpeEvent) -> u16
         } => 0,
         MpeEvent::Mode { zone: _ } => 0,
         MpeEvent::Ignored => 0,
-    }
-}
-
-// The event tells of a change of the zones.
-pub fn changes(event: MpeEvent) -> bool
-    ensures { λ r. ⌜ r ≡ changesBy event ⌝ }
-{
-    match event {
-        MpeEvent::NoZone => false,
-        MpeEvent::Zone {
-            zone: _,
-            manager: _,
-        } => false,
-        MpeEvent::Layout { reset: _ } => true,
-        MpeEvent::Sensitivity {
-            zone: _,
-            manager: _,
-        } => true,
-        MpeEvent::Mode { zone: _ } => true,
-        MpeEvent::Ignored => false,
     }
 }
 
@@ -388,8 +398,8 @@ impl Zones {
     }
 
     // The layout changes, and each zone with members is activated.
-    pub fn lay_out(self, layout: MpeLayout) -> Zones
-        ensures { λ r. ⌜ r ≡ zonesSet self layout ⌝ }
+    fn lay_out(self, layout: MpeLayout) -> Zones
+        ensures { λ r. ⌜ r ≡ withZonesOf self layout ⌝ }
     {
         let mut laid = self;
         laid.layout = layout;
@@ -445,11 +455,10 @@ impl Zones {
     fn mcm(self, channel: u8, change: ParameterChange) -> ZonesUpdate
         ensures { λ r. ⌜ r ≡ configured self channel change ⌝ }
     {
-        let role = announcing_role(channel);
-        match role {
-            MpeRole::NoZone => self.with_event(MpeEvent::Ignored),
-            MpeRole::Manager(zone) => self.configure(zone, change),
-            MpeRole::Member(_) => self.with_event(MpeEvent::Ignored),
+        let announced = announced_on(channel);
+        match announced {
+            AnnouncedZone::NoneAnnounced => self.with_event(MpeEvent::Ignored),
+            AnnouncedZone::Announced(zone) => self.configure(zone, change),
         }
     }
 
@@ -474,7 +483,7 @@ impl Zones {
         ensures { λ r. ⌜ r ≡ onMember zone (monoOf self zone) (isLowestIn self zone channel) opcode first ⌝ }
     {
         if opcode != 0xB {
-            return voice_on_member(zone, self.is_mono(zone), opcode);
+            return other_on_member(zone, self.is_mono(zone), opcode);
         }
         if first == 0 {
             return event_in_mode_4(zone, self.is_mono(zone));
@@ -495,7 +504,7 @@ impl Zones {
     }
 
     // A message by its channel's role, where no parameter event decides.
-    pub fn event(self, role: MpeRole, opcode: u8, channel: u8, first: u8) -> MpeEvent
+    fn event_by_role(self, role: MpeRole, opcode: u8, channel: u8, first: u8) -> MpeEvent
         ensures { λ r. ⌜ r ≡ plainEvent self channel role opcode first ⌝ }
     {
         match role {
@@ -505,20 +514,6 @@ impl Zones {
                 manager: true,
             },
             MpeRole::Member(zone) => self.event_on_member(zone, opcode, channel, first),
-        }
-    }
-
-    // A message that is no control change, by its channel's role.
-    pub fn voice_event(self, role: MpeRole, opcode: u8) -> MpeEvent
-        ensures { λ r. ⌜ r ≡ voiceOf self role opcode ⌝ }
-    {
-        match role {
-            MpeRole::NoZone => MpeEvent::NoZone,
-            MpeRole::Manager(zone) => MpeEvent::Zone {
-                zone,
-                manager: true,
-            },
-            MpeRole::Member(zone) => voice_on_member(zone, self.is_mono(zone), opcode),
         }
     }
 
@@ -558,7 +553,7 @@ impl Zones {
     }
 
     // The zones after a message: by its channel's role and the event that it is where no parameter event decides.
-    pub fn apply(
+    fn apply(
         self,
         parameter: MaybeEvent,
         role: MpeRole,
@@ -569,8 +564,8 @@ impl Zones {
     ) -> ZonesUpdate
         ensures { λ r. ⌜ r ≡ updatedAs self channel role plain (decoded opcode parameter) first ⌝ }
     {
-        let said = decode(opcode, parameter);
-        match said {
+        let decoded = decode(opcode, parameter);
+        match decoded {
             Decoded::Nothing => self.plain(plain, first),
             Decoded::Configuration(change) => self.mcm(channel, change),
             Decoded::BendSensitivity(event) => self.sense(role, event),
@@ -578,11 +573,63 @@ impl Zones {
     }
 
     // The zones after a message whose fields are cut, with the event that its channel's parameters gave for it.
-    pub fn receive(self, parameter: MaybeEvent, opcode: u8, channel: u8, first: u8) -> ZonesUpdate
+    fn update(self, parameter: MaybeEvent, opcode: u8, channel: u8, first: u8) -> ZonesUpdate
         ensures { λ r. ⌜ r ≡ messageUpdate self parameter opcode channel first ⌝ }
     {
         let role = self.role(channel);
-        let plain = self.event(role, opcode, channel, first);
+        let plain = self.event_by_role(role, opcode, channel, first);
         self.apply(parameter, role, plain, opcode, channel, first)
+    }
+
+    // One message, with the event that its channel's parameters gave for it. A word that is no message is out of range.
+    pub fn receive(self, word: u32, parameter: MaybeEvent) -> ZonesReceived
+        ensures reply { λ r. ⌜ mpeReplyRead (r .reply) ≡ zonesReply self word parameter ⌝ }
+        ensures zones { λ r. ⌜ r .zones ≡ zonesAfter self word parameter ⌝ }
+    {
+        if is_message(word) {
+            let u = self.update(parameter, opcode(word), channel(word), first_data(word));
+            let zones = u.zones;
+            let event = u.event;
+            return ZonesReceived {
+                zones,
+                reply: MpeReply::Received(event),
+            };
+        }
+        ZonesReceived {
+            zones: self,
+            reply: MpeReply::OutOfRange,
+        }
+    }
+
+    // The event of a message for which its channel's parameters gave none. A word that is no message is out of range.
+    pub fn event(self, word: u32) -> MpeReply
+        ensures { λ r. ⌜ mpeReplyRead r ≡ zonesReply self word NoEvent ⌝ }
+    {
+        if is_message(word) {
+            let role = self.role(channel(word));
+            let event = self.event_by_role(role, opcode(word), channel(word), first_data(word));
+            return MpeReply::Received(event);
+        }
+        MpeReply::OutOfRange
+    }
+
+    // A layout that the application sets. An illegal one is out of range.
+    pub fn set_layout(self, layout: MpeLayout) -> ZonesLayoutSet
+        ensures reply { λ r. ⌜ maskFound (r .reply) ≡ zonesSetReply self layout ⌝ }
+        ensures zones { λ r. ⌜ r .zones ≡ zonesSet self layout ⌝ }
+    {
+        if layout.is_layout() {
+            let before = self.layout;
+            let mask = mask_in(layout_reset(before, layout));
+            let zones = self.lay_out(layout);
+            return ZonesLayoutSet {
+                zones,
+                reply: ResetMask::Mask(mask),
+            };
+        }
+        ZonesLayoutSet {
+            zones: self,
+            reply: ResetMask::OutOfRange,
+        }
     }
 }

@@ -1,6 +1,6 @@
 // The parameter receiver of one channel (parameters.rs).
 ghost use mathlib.Core.Path.{_≡_};
-ghost use Prim.Native.Nat.{_<_, _-_};
+ghost use Prim.Native.Nat.{_%_, _^_, _<_, _-_};
 ghost use Rattle.parameters.specs.State.{newState, selects, selectedRpn, selectedNrpn, selectionOf, nulled, rpnSwitched, nrpnSwitched, entered, numberStored, controlled, updateByFields, parameterReplyRead, parameterReply, parameterAfter};
 use parameter_event::Parameter;
 use parameter_event::ParameterChange;
@@ -212,8 +212,8 @@ impl ParameterState {
         self
     }
 
-    // A control change, by its two data bytes.
-    pub fn control(self, index: u8, value: u8) -> ParameterUpdate
+    // A control change whose data bytes have 7 bits.
+    fn control(self, index: u8, value: u8) -> ParameterUpdate
         ensures { λ r. ⌜ r ≡ controlled self index value ⌝ }
     {
         if index == 6 {
@@ -235,7 +235,14 @@ impl ParameterState {
         }
     }
 
-    // A message whose fields are cut: only control changes are heard.
+    // A control change, by its two data bytes, of which the low 7 bits are taken.
+    pub fn control_change(self, index: u8, value: u8) -> ParameterUpdate
+        ensures { λ r. ⌜ r ≡ controlled self (index % 2 ^ 7) (value % 2 ^ 7) ⌝ }
+    {
+        self.control(index % 128, value % 128)
+    }
+
+    // A message whose fields are cut: only control changes act.
     fn receive_fields(self, opcode: u8, first: u8, second: u8) -> ParameterUpdate
         ensures { λ r. ⌜ r ≡ updateByFields self opcode first second ⌝ }
     {

@@ -1,6 +1,6 @@
 -- Two cases by a test, and a choice by one.
 -- Assumes nothing.
-use mathlib.Core.Path.{_≡_, refl}
+use mathlib.Core.Path.{_≡_, refl, ap}
 use mathlib.Core.Bool.{Bool, true, false}
 use Rattle.ump.specs.Choice.{if_then_else_}
 
@@ -12,3 +12,10 @@ by-test false t f = f refl
 pub of-both : {A : Type 0} (P : A → Type 0) (b : Bool) {x y : A} → P x → P y → P (if b then x else y)
 of-both P true p q = p
 of-both P false p q = q
+
+-- a choice whose test holds, and one whose test fails
+pub chosen : {A : Type 0} {b : Bool} (x y : A) → b ≡ true → (if b then x else y) ≡ x
+chosen x y p = ap (λ t. if t then x else y) p
+
+pub passed : {A : Type 0} {b : Bool} (x y : A) → b ≡ false → (if b then x else y) ≡ y
+passed x y p = ap (λ t. if t then x else y) p

@@ -4,7 +4,7 @@ ghost use mathlib.Core.Path.{_≡_};
 ghost use Prim.Native.Nat.{_<_};
 ghost use Rattle.ump.specs.Field.{field};
 ghost use Rattle.ump.specs.Packet.{packetValue};
-ghost use Rattle.ump.specs.Word.{opcodeOf, channelOf, firstOf, secondOf, bendOf, formOf, wordForm, wordOf, messageMade, twoDataWord, oneDataWord, bendWord, twoMade, threeMade, fourMade, controlChange};
+ghost use Rattle.ump.specs.Word.{opcodeOf, channelOf, firstOf, secondOf, formOf, wordForm, wordOf, messageMade, twoDataWord, oneDataWord, bendWord, twoMade, threeMade, fourMade, controlChange};
 ghost use Rattle.ump.specs.Outcome.{allOf};
 ghost use mathlib.Core.List.{[], _∷_};
 use crate::packet::Channel;
@@ -221,13 +221,6 @@ impl Midi1PitchBend {
         ensures { λ r. ⌜ messageMade r ≡ bendWord (packetValue (group .0)) (packetValue (channel .0)) value ⌝ }
     {
         bend(group.into_bits(), channel.into_bits(), value)
-    }
-
-    // The 14-bit value of a Pitch Bend's word: the second data byte is its upper half.
-    pub fn value(word: u32) -> u16
-        ensures { λ r. ⌜ r ≡ bendOf word ⌝ }
-    {
-        second_data(word) as u16 * 128 + first_data(word) as u16
     }
 }
 

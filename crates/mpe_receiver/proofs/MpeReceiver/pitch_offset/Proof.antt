@@ -1,9 +1,10 @@
 -- `mpe_receiver::MpeReceiver::pitch_offset` meets its contract.
 -- Assumes nothing.
-use mathlib.Core.Path.{ap, _∙_}
+use mathlib.Core.Path.{ap, sym, _∙_}
 use borrow.Author.Needs.{needs}
 use Rattle.mpe_zones.specs.Zones.{roleHeld}
 use Rattle.mpe_receiver.specs.Read.{offsetByRole}
+use Rattle.mpe_receiver.proofs.Range.{offset-range}
 use Rattle.mpe_receiver.proofs.MpeReceiver.pitch_offset.Statement.{statement}
 use Rattle.mpe_receiver.proofs.MpeReceiver.pitch_offset.Tie as tie
 
@@ -19,9 +20,10 @@ offset-by-role-requires c κs = search needs
 returns : tie.Need-returns
 returns c =
     let a = c .before .before .before .args in
-    c .offset-by-role .ensures
+    let is = c .offset-by-role .ensures
     ∙ ap (offsetByRole (a .self) (a .channel))
-    (c .before .role .ensures ∙ ap (λ z. roleHeld (z .layout) (a .channel)) (c .before .before .zones .ensures))
+    (c .before .role .ensures ∙ ap (λ z. roleHeld (z .layout) (a .channel)) (c .before .before .zones .ensures)) in
+    (is, λ z given-as. offset-range (a .self) (a .channel) z (sym is ∙ given-as))
 
 pub pitch-offset-spec : {M : Type 1} → statement M
 pitch-offset-spec = tie.close (tie.spec zones-requires role-requires offset-by-role-requires returns)

@@ -1,29 +1,47 @@
--- `mpe_receiver::MpeReceiver::receive` meets its contract: a word of the form of a message is heard, and no other.
+-- `mpe_receiver::MpeReceiver::receive` meets its contract: a word that the zones received settles the receiver, and no other.
 -- Assumes nothing.
 use borrow.Author.Needs.{needs}
+use Rattle.mpe_receiver.proofs.Parts.{received-settled, declined-left}
 use Rattle.mpe_receiver.proofs.MpeReceiver.receive.Statement.{statement}
 use Rattle.mpe_receiver.proofs.MpeReceiver.receive.Tie as tie
-use mathlib.Core.Path.{ap, sym, _∙_}
-use Rattle.ump.specs.Outcome.{given}
 
-is-message-requires : tie.Need-is-message-requires
-is-message-requires c κs = search needs
+zones-requires : tie.Need-zones-requires
+zones-requires c κs = search needs
 
-receive-message-requires : tie.Need-receive-message-requires
-receive-message-requires c κs = search needs
+receive-requires : tie.Need-receive-requires
+receive-requires c κs = search needs
+
+enum-known-reply : tie.Need-enum-known-reply
+enum-known-reply c = search needs
+
+settle-requires : tie.Need-settle-requires
+settle-requires c κs = search needs
+
+enum-told : tie.Need-enum-told
+enum-told c = search needs
 
 returns : tie.Need-returns
 returns c =
-    let b = c .before in
-    let heard = b .receive-message .ensures in
-    let t = sym (b .before .before .is-message .ensures) ∙ b .before .if1 .taken in
-    (rw t (ap (λ h. given (h .event)) heard), rw t (ap (λ h. h .receiver) heard))
+    let m = c .before in
+    let u = m .before .before .before .before in
+    let a = u .before .before .args in
+    received-settled (a .self) (a .parameter) (a .word) _ (u .before .zones .ensures) (u .receive .ensures .0)
+    (m .before .reply .given .1) (u .receive .ensures .1) (c .settle .ensures)
 
 returns-2 : tie.Need-returns-2
 returns-2 c =
-    let t = sym (c .before .is-message .ensures) ∙ c .if1 .left in
-    (rw t, rw t)
+    let u = c .before .before .before in
+    let a = u .before .before .args in
+    declined-left (a .self) (a .parameter) (a .word) _ (u .before .zones .ensures) (u .receive .ensures .0) (c .enum-told .given .1)
 
 pub receive-spec : {M : Type 1} → statement M
 receive-spec =
-    tie.close (tie.spec is-message-requires receive-message-requires returns returns-2)
+    tie.close
+    (tie.spec
+    zones-requires
+    receive-requires
+    enum-known-reply
+    settle-requires
+    enum-told
+    returns
+    returns-2)

@@ -1,26 +1,18 @@
--- `mpe_receiver::MpeReceiver::set_layout` meets its contract.
+-- `mpe_receiver::MpeReceiver::set_layout` meets its contract: a layout that the zones took puts channels to rest, and no other.
 -- Assumes nothing.
-use mathlib.Core.Path.{ap, sym, _∙_}
 use borrow.Author.Needs.{needs}
-use Rattle.mpe_zones.specs.Zones.{maskIn}
-use Rattle.mpe_receiver.proofs.Parts.{set-updated}
+use Rattle.mpe_receiver.proofs.Parts.{set-updated, unset-left}
 use Rattle.mpe_receiver.proofs.MpeReceiver.set_layout.Statement.{statement}
 use Rattle.mpe_receiver.proofs.MpeReceiver.set_layout.Tie as tie
-
-is-layout-requires : tie.Need-is-layout-requires
-is-layout-requires c κs = search needs
-
-layout-reset-requires : tie.Need-layout-reset-requires
-layout-reset-requires c κs = search needs
-
-mask-in-requires : tie.Need-mask-in-requires
-mask-in-requires c κs = search needs
 
 zones-requires : tie.Need-zones-requires
 zones-requires c κs = search needs
 
-lay-out-requires : tie.Need-lay-out-requires
-lay-out-requires c κs = search needs
+set-layout-requires : tie.Need-set-layout-requires
+set-layout-requires c κs = search needs
+
+enum-known-reply : tie.Need-enum-known-reply
+enum-known-reply c = search needs
 
 with-zones-requires : tie.Need-with-zones-requires
 with-zones-requires c κs = search needs
@@ -28,33 +20,32 @@ with-zones-requires c κs = search needs
 rest-requires : tie.Need-rest-requires
 rest-requires c κs = search needs
 
+enum-told : tie.Need-enum-told
+enum-told c = search needs
+
 returns : tie.Need-returns
 returns c =
-    let b = c .before .before .before .before in
-    let a = b .before .before .before .before .before .args in
-    set-updated (a .self) (a .layout)
-    (sym (b .before .before .before .before .is-layout .ensures) ∙ b .before .before .before .if1 .taken)
-    (b .mask-in .ensures ∙ ap maskIn (b .before .layout-reset .ensures))
-    (c .before .before .before .zones .ensures)
-    (c .before .before .lay-out .ensures)
-    (c .before .with-zones .ensures)
-    (c .rest .ensures)
+    let v = c .before in
+    let u = v .before .before .before .before .before in
+    let a = u .before .before .args in
+    set-updated (a .self) (a .layout) _ (u .before .zones .ensures) (u .set-layout .ensures .0)
+    (v .before .before .reply .given .1) (u .set-layout .ensures .1) (v .with-zones .ensures) (c .rest .ensures)
 
 returns-2 : tie.Need-returns-2
 returns-2 c =
-    let t = sym (c .before .is-layout .ensures) ∙ c .if1 .left in
-    (rw t, rw t)
+    let u = c .before .before .before in
+    let a = u .before .before .args in
+    unset-left (a .self) (a .layout) _ (u .before .zones .ensures) (u .set-layout .ensures .0) (c .enum-told .given .1)
 
 pub set-layout-spec : {M : Type 1} → statement M
 set-layout-spec =
     tie.close
     (tie.spec
-    is-layout-requires
-    layout-reset-requires
-    mask-in-requires
     zones-requires
-    lay-out-requires
+    set-layout-requires
+    enum-known-reply
     with-zones-requires
     rest-requires
+    enum-told
     returns
     returns-2)

@@ -15,14 +15,14 @@ enum-told c = search needs
 plain-requires : tie.Need-plain-requires
 plain-requires c κs = search needs
 
-enum-known-said : tie.Need-enum-known-said
-enum-known-said c = search needs
+enum-known-decoded : tie.Need-enum-known-decoded
+enum-known-decoded c = search needs
 
 mcm-requires : tie.Need-mcm-requires
 mcm-requires c κs = search needs
 
-enum-known-said-2 : tie.Need-enum-known-said-2
-enum-known-said-2 c = search needs
+enum-known-decoded-2 : tie.Need-enum-known-decoded-2
+enum-known-decoded-2 c = search needs
 
 sense-requires : tie.Need-sense-requires
 sense-requires c κs = search needs
@@ -37,13 +37,13 @@ returns-2 : tie.Need-returns-2
 returns-2 c =
     let a = c .before .before .before .before .before .args in
     c .mcm .ensures
-    ∙ ap (λ s. updatedAs (a .self) (a .channel) (a .role) (a .plain) s (a .first)) (sym (c .before .before .said .given .1) ∙ c .before .before .before .before .decode .ensures)
+    ∙ ap (λ s. updatedAs (a .self) (a .channel) (a .role) (a .plain) s (a .first)) (sym (c .before .before .decoded .given .1) ∙ c .before .before .before .before .decode .ensures)
 
 returns-3 : tie.Need-returns-3
 returns-3 c =
     let a = c .before .before .before .before .before .args in
     c .sense .ensures
-    ∙ ap (λ s. updatedAs (a .self) (a .channel) (a .role) (a .plain) s (a .first)) (sym (c .before .before .said2 .given .1) ∙ c .before .before .before .before .decode .ensures)
+    ∙ ap (λ s. updatedAs (a .self) (a .channel) (a .role) (a .plain) s (a .first)) (sym (c .before .before .decoded2 .given .1) ∙ c .before .before .before .before .decode .ensures)
 
 pub apply-spec : {M : Type 1} → statement M
 apply-spec =
@@ -52,9 +52,9 @@ apply-spec =
     decode-requires
     enum-told
     plain-requires
-    enum-known-said
+    enum-known-decoded
     mcm-requires
-    enum-known-said-2
+    enum-known-decoded-2
     sense-requires
     returns
     returns-2

@@ -9,12 +9,12 @@ use Rattle.mpe_zones.proofs.Zones.event_on_member.Tie as tie
 is-mono-requires : tie.Need-is-mono-requires
 is-mono-requires c κs = search needs
 
-voice-on-member-requires : tie.Need-voice-on-member-requires
-voice-on-member-requires c κs = search needs
+other-on-member-requires : tie.Need-other-on-member-requires
+other-on-member-requires c κs = search needs
 
 returns : tie.Need-returns
 unfolding onMember
-returns c = search (auto, c .voice-on-member .ensures, c .before .is-mono .ensures)
+returns c = search (auto, c .other-on-member .ensures, c .before .is-mono .ensures)
 
 is-mono-requires-2 : tie.Need-is-mono-requires-2
 is-mono-requires-2 c κs = search needs
@@ -59,7 +59,7 @@ event-on-member-spec =
     tie.close
     (tie.spec
     is-mono-requires
-    voice-on-member-requires
+    other-on-member-requires
     returns
     is-mono-requires-2
     event-in-mode-4-requires

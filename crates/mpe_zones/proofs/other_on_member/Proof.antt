@@ -1,9 +1,9 @@
--- `mpe_zones::voice_on_member` meets its contract: each return is a case of `voiceOnMember`.
+-- `mpe_zones::other_on_member` meets its contract: each return is a case of `otherOnMember`.
 -- Assumes nothing.
 use borrow.Author.Needs.{needs}
 use Rattle.ump.proofs.Auto.{auto}
-use Rattle.mpe_zones.proofs.voice_on_member.Statement.{statement}
-use Rattle.mpe_zones.proofs.voice_on_member.Tie as tie
+use Rattle.mpe_zones.proofs.other_on_member.Statement.{statement}
+use Rattle.mpe_zones.proofs.other_on_member.Tie as tie
 
 returns : tie.Need-returns
 returns c = search auto
@@ -17,6 +17,6 @@ returns-2 c = search (auto, c .event-in-mode-4 .ensures)
 returns-3 : tie.Need-returns-3
 returns-3 c = search auto
 
-pub voice-on-member-spec : {M : Type 1} → statement M
-voice-on-member-spec =
+pub other-on-member-spec : {M : Type 1} → statement M
+other-on-member-spec =
     tie.close (tie.spec returns event-in-mode-4-requires returns-2 returns-3)
