@@ -4,3 +4,4 @@ pub mod Roles
 pub mod Mcm
 pub mod Named
 pub mod Masks
+pub mod Occupied

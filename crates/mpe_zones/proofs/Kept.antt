@@ -29,13 +29,8 @@ use Rattle.mpe_zones.specs.declared.Zones.{Zones}
 use Rattle.mpe_zones.specs.Zones.{withSensitivities, withMono, monoOf, slotOf, zoneSensitivity, roleHeld}
 use Rattle.mpe_zones.specs.Update.{zonesUpdate, announced, configuredBy, configuredAs, announcedOn, sensitivityApplied, sensed, inMode4, modeEvent, onMember, plainEvent, modeSet, decoded, updatedAs, messageUpdate, resetIn, changesBy}
 use Rattle.mpe_zones.specs.WellFormed.{ZonesFormed}
-use Rattle.mpe_zones.specs.Claims.{monoAfter}
+use Rattle.mpe_zones.specs.Claims.{roleFor, monoAfter}
 use Rattle.mpe_zones.proofs.Slots.{slot-fits, slot-even, put-same, put-other}
-
--- the role of a zone's manager or of its members
-abbrev pub roleFor : MpeZone → Bool → MpeRole
-roleFor zone true = role.Manager zone
-roleFor zone false = role.Member zone
 
 -- the zones after RPN 0
 abbrev pub rpnZero : Zones → MpeZone → Bool → ParameterEvent → Zones

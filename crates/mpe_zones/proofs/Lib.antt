@@ -3,3 +3,4 @@ pub mod Slots
 pub mod Activation
 pub mod Kept
 pub mod WellFormed
+pub mod Cases

@@ -6,6 +6,7 @@ ghost use Rattle.mpe_layout.specs.Reset.{maskFound};
 ghost use Rattle.parameters.specs.declared.MaybeEvent.the-variants.{NoEvent};
 ghost use Rattle.mpe_zones.specs.Zones.{withMono, monoOf, slotOf, sensitivityAt, sensitivityPut, zoneSensitivity, activated, activatedIf, roleIn, roleHeld, layoutIn, maskIn, isLowest, withZonesOf, zonesSetReply, zonesSet};
 ghost use Rattle.mpe_zones.specs.Update.{decodedRpn, decodedParameter, decodedEvent, decoded, zonesUpdate, announced, configuredBy, configured, announcedOn, sensitivityApplied, sensedAs, sensed, sensedEvent, inMode4, modeEvent, otherOnMember, isLowestIn, onMember, plainEvent, modeSet, updatedAs, messageUpdate, mpeReplyRead, zonesReply, zonesAfter, resetIn};
+ghost use Rattle.mpe_zones.specs.Claims.{ReceiverCases};
 use mpe_layout::FoundRole;
 use mpe_layout::LowestMember;
 use mpe_layout::MadeLayout;
@@ -585,6 +586,7 @@ impl Zones {
     pub fn receive(self, word: u32, parameter: MaybeEvent) -> ZonesReceived
         ensures reply { λ r. ⌜ mpeReplyRead (r .reply) ≡ zonesReply self word parameter ⌝ }
         ensures zones { λ r. ⌜ r .zones ≡ zonesAfter self word parameter ⌝ }
+        ensures cases { λ _. ⌜ ReceiverCases ⌝ }
     {
         if is_message(word) {
             let u = self.update(parameter, opcode(word), channel(word), first_data(word));

@@ -26,7 +26,7 @@ returns c =
     let u = m .before .before .before .before in
     let a = u .before .before .args in
     received-settled (a .self) (a .parameter) (a .word) _ (u .before .zones .ensures) (u .receive .ensures .0)
-    (m .before .reply .given .1) (u .receive .ensures .1) (c .settle .ensures)
+    (m .before .reply .given .1) (u .receive .ensures .1 .0) (c .settle .ensures)
 
 returns-2 : tie.Need-returns-2
 returns-2 c =

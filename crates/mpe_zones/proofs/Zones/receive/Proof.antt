@@ -4,6 +4,7 @@ use borrow.Author.Needs.{needs}
 use mathlib.Core.Path.{ap, sym, _∙_}
 use Rattle.ump.specs.Outcome.{given}
 use Rattle.mpe_zones.specs.Update.{messageUpdate}
+use Rattle.mpe_zones.proofs.Cases.{receiver-cases}
 use Rattle.mpe_zones.proofs.Zones.receive.Statement.{statement}
 use Rattle.mpe_zones.proofs.Zones.receive.Tie as tie
 
@@ -30,12 +31,12 @@ returns c =
     let t = sym (o .before .before .is-message .ensures) ∙ o .before .if1 .taken in
     let is = u .update .ensures
     ∙ (λ i. messageUpdate (a .self) (a .parameter) (o .opcode .ensures i) (u .before .before .channel .ensures i) (u .before .first-data .ensures i)) in
-    (rw t (ap (λ x. given (x .event)) is), rw t (ap (λ x. x .zones) is))
+    (rw t (ap (λ x. given (x .event)) is), (rw t (ap (λ x. x .zones) is), receiver-cases))
 
 returns-2 : tie.Need-returns-2
 returns-2 c =
     let t = sym (c .before .is-message .ensures) ∙ c .if1 .left in
-    (rw t, rw t)
+    (rw t, (rw t, receiver-cases))
 
 pub receive-spec : {M : Type 1} → statement M
 receive-spec =
