@@ -40,7 +40,7 @@ pub data Answer : Type 0 where
   selected : Selection → Answer
   switched : Bool → Answer
 
--- by the same definitions as the contracts of the calls
+-- the answer of a call; the contract of each call says that it gives this one
 abbrev pub answer : End → Call → Answer
 answer e (byteByValue b) = replied (stepReply e b)
 answer e (byteLent b) = replied (stepReply e b)
@@ -58,7 +58,7 @@ answer e (selection channel) = selected (selectionOf (parameterAt e (packetValue
 answer e (rpnReception channel) = switched (parameterAt e (packetValue channel) .«rpn_on»)
 answer e (nrpnReception channel) = switched (parameterAt e (packetValue channel) .«nrpn_on»)
 
--- the end that a call returns or leaves; readings leave it as it is
+-- the end that a call returns or leaves, by its contract too; readings leave it as it is
 abbrev pub next : End → Call → End
 next e (byteByValue b) = stepEnd e b
 next e (byteLent b) = stepEnd e b

@@ -1,14 +1,19 @@
 // The end: the byte call by value and on a lent end, the layout, the reception switches, and every reading.
 ghost use mathlib.Core.Path.{_≡_};
+ghost use mathlib.Core.List.{map};
+ghost use lib.IntN.{ℤ};
 ghost use Prim.Native.Nat.{_<_};
+ghost use Rattle.ump.specs.Outcome.{given};
 ghost use Rattle.ump.specs.Packet.{packetValue};
 ghost use Rattle.parameters.specs.State.{parameterReplyRead};
 ghost use Rattle.mpe_receiver.specs.Receive.{receiverReplyRead};
 ghost use Rattle.parameters.specs.State.{selectionOf};
 ghost use Rattle.mpe_layout.specs.Reset.{maskFound};
+ghost use Rattle.mpe_pitch.specs.Claims.{Within};
 ghost use Rattle.mpe_receiver.specs.Receive.{setReply};
 ghost use Rattle.mpe_receiver.specs.Read.{modeOf, sensitivityOf, bendAt, pressureAt, brightnessAt, offsetOf, offsetRead};
-ghost use Rattle.receiving_end.specs.Lists.{afterBytes};
+ghost use Rattle.receiving_end.specs.Lists.{byteByValue, byteLent, setLayout, setRpnReception, setNrpnReception, layout, mode, sensitivity, pitchBend, pressure, brightness, pitchOffset, selection, rpnReception, nrpnReception, replied, masked, done, laidOut, counted, ranged, offset, selected, switched, answer, next, after, afterBytes};
+ghost use Rattle.receiving_end.specs.WellFormed.{AlwaysFormed};
 ghost use Rattle.receiving_end.specs.End.{newEnd, parameterAt, eventIn, mpeIn, stepped, messageAt, messageStep, answerStep, stepReply, stepEnd, withParameter, laidOutEnd, rpnSwitchedAt, nrpnSwitchedAt};
 use byte_reader::Read;
 use byte_reader::Reader;
@@ -77,7 +82,7 @@ fn replying(end: End, reply: Reply) -> Stepped
     Stepped { end, reply }
 }
 
-// A message of channel k: its parameters step_all it first, and the receiver gets their event.
+// A message of channel k: its parameters receive it first, and the receiver gets their event.
 fn message_at(end: End, k: usize, word: u32) -> Stepped
     requires { ⌜ k < 16 ⌝ }
     ensures { λ r. ⌜ r ≡ messageAt end k word ⌝ }
@@ -118,7 +123,7 @@ fn answer(end: End, next: Reader, read: Read) -> Stepped
 
 // The byte call, by value.
 pub fn step(end: End, b: u8) -> Stepped
-    ensures { λ r. ⌜ (r .reply ≡ stepReply end b) × (r .end ≡ stepEnd end b) ⌝ }
+    ensures { λ r. ⌜ ((r .reply ≡ stepReply end b) × (r .end ≡ stepEnd end b)) × ((answer end (byteByValue b) ≡ replied (r .reply)) × (next end (byteByValue b) ≡ r .end)) ⌝ }
 {
     let reader = end.reader;
     let s = reader.step(b);
@@ -129,7 +134,7 @@ pub fn step(end: End, b: u8) -> Stepped
 
 // The byte call on a lent end: the end is taken apart, and what `step` makes of it is put in its place.
 pub fn byte(end: &mut End, b: u8) -> Reply
-    ensures { λ r. ⌜ (r ≡ stepReply (now (end .entry)) b) × (now (end .exit) ≡ stepEnd (now (end .entry)) b) ⌝ }
+    ensures { λ r. ⌜ ((r ≡ stepReply (now (end .entry)) b) × (now (end .exit) ≡ stepEnd (now (end .entry)) b)) × ((answer (now (end .entry)) (byteLent b) ≡ replied r) × (next (now (end .entry)) (byteLent b) ≡ now (end .exit))) ⌝ }
 {
     let e = *end;
     let s = step(e, b);
@@ -137,9 +142,10 @@ pub fn byte(end: &mut End, b: u8) -> Reply
     s.reply
 }
 
-// The end after all of these bytes.
+// The end after all of these bytes: a list of byte calls.
 pub fn step_all(end: End, bytes: &[u8]) -> End
-    ensures { λ r. ⌜ r ≡ afterBytes end (now (bytes .entry)) ⌝ }
+    ensures is { λ r. ⌜ r ≡ afterBytes end (now (bytes .entry)) ⌝ }
+    ensures calls { λ r. ⌜ r ≡ after end (map byteByValue (now (bytes .entry))) ⌝ }
 {
     let mut e = end;
     let mut i: usize = 0;
@@ -152,9 +158,10 @@ pub fn step_all(end: End, bytes: &[u8]) -> End
 }
 
 impl End {
-    // No running status, no begun message, and the parts as when new.
+    // No running status, no begun message, and the parts as when new. Whatever is called on it, it stays well formed.
     pub fn new() -> End
-        ensures { λ r. ⌜ r ≡ newEnd ⌝ }
+        ensures is { λ r. ⌜ r ≡ newEnd ⌝ }
+        ensures always { λ _. ⌜ AlwaysFormed ⌝ }
     {
         End {
             reader: Reader::new(),
@@ -182,7 +189,8 @@ impl End {
 
     // A layout that the application sets.
     pub fn set_layout(self, layout: MpeLayout) -> LayoutSet
-        ensures { λ r. ⌜ (maskFound (r .reply) ≡ setReply (self .receiver) layout) × (r .end ≡ laidOutEnd self layout) ⌝ }
+        ensures is { λ r. ⌜ (maskFound (r .reply) ≡ setReply (self .receiver) layout) × (r .end ≡ laidOutEnd self layout) ⌝ }
+        ensures call { λ r. ⌜ (masked (maskFound (r .reply)) ≡ answer self (setLayout layout)) × (r .end ≡ next self (setLayout layout)) ⌝ }
     {
         let receiver = self.receiver;
         let set = receiver.set_layout(layout);
@@ -195,7 +203,8 @@ impl End {
 
     // Turns a channel's RPN reception on or off.
     pub fn set_rpn_reception(self, channel: u8, on: bool) -> End
-        ensures { λ r. ⌜ r ≡ rpnSwitchedAt self channel on ⌝ }
+        ensures is { λ r. ⌜ r ≡ rpnSwitchedAt self channel on ⌝ }
+        ensures call { λ r. ⌜ (done ≡ answer self (setRpnReception channel on)) × (r ≡ next self (setRpnReception channel on)) ⌝ }
     {
         let k = (channel % 16) as usize;
         let p = self.parameter(k);
@@ -204,7 +213,8 @@ impl End {
 
     // Turns a channel's NRPN reception on or off.
     pub fn set_nrpn_reception(self, channel: u8, on: bool) -> End
-        ensures { λ r. ⌜ r ≡ nrpnSwitchedAt self channel on ⌝ }
+        ensures is { λ r. ⌜ r ≡ nrpnSwitchedAt self channel on ⌝ }
+        ensures call { λ r. ⌜ (done ≡ answer self (setNrpnReception channel on)) × (r ≡ next self (setNrpnReception channel on)) ⌝ }
     {
         let k = (channel % 16) as usize;
         let p = self.parameter(k);
@@ -212,14 +222,16 @@ impl End {
     }
 
     pub fn rpn_reception(self, channel: u8) -> bool
-        ensures { λ r. ⌜ r ≡ parameterAt self (packetValue channel) .«rpn_on» ⌝ }
+        ensures is { λ r. ⌜ r ≡ parameterAt self (packetValue channel) .«rpn_on» ⌝ }
+        ensures call { λ r. ⌜ (switched r ≡ answer self (rpnReception channel)) × (self ≡ next self (rpnReception channel)) ⌝ }
     {
         let p = self.parameter((channel % 16) as usize);
         p.rpn_reception()
     }
 
     pub fn nrpn_reception(self, channel: u8) -> bool
-        ensures { λ r. ⌜ r ≡ parameterAt self (packetValue channel) .«nrpn_on» ⌝ }
+        ensures is { λ r. ⌜ r ≡ parameterAt self (packetValue channel) .«nrpn_on» ⌝ }
+        ensures call { λ r. ⌜ (switched r ≡ answer self (nrpnReception channel)) × (self ≡ next self (nrpnReception channel)) ⌝ }
     {
         let p = self.parameter((channel % 16) as usize);
         p.nrpn_reception()
@@ -227,14 +239,16 @@ impl End {
 
     // The parameter that a data entry on the channel acts on now.
     pub fn selection(self, channel: u8) -> Selection
-        ensures { λ r. ⌜ r ≡ selectionOf (parameterAt self (packetValue channel)) ⌝ }
+        ensures is { λ r. ⌜ r ≡ selectionOf (parameterAt self (packetValue channel)) ⌝ }
+        ensures call { λ r. ⌜ (selected r ≡ answer self (selection channel)) × (self ≡ next self (selection channel)) ⌝ }
     {
         let p = self.parameter((channel % 16) as usize);
         p.selection()
     }
 
     pub fn layout(self) -> MpeLayout
-        ensures { λ r. ⌜ r ≡ self .receiver .layout ⌝ }
+        ensures is { λ r. ⌜ r ≡ self .receiver .layout ⌝ }
+        ensures call { λ r. ⌜ (laidOut r ≡ answer self layout) × (self ≡ next self layout) ⌝ }
     {
         let receiver = self.receiver;
         receiver.layout()
@@ -242,7 +256,8 @@ impl End {
 
     // The mode of a zone: 3 or 4.
     pub fn mode(self, zone: MpeZone) -> u8
-        ensures { λ r. ⌜ r ≡ modeOf (self .receiver) zone ⌝ }
+        ensures is { λ r. ⌜ r ≡ modeOf (self .receiver) zone ⌝ }
+        ensures call { λ r. ⌜ (counted r ≡ answer self (mode zone)) × (self ≡ next self (mode zone)) ⌝ }
     {
         let receiver = self.receiver;
         receiver.mode(zone)
@@ -250,36 +265,42 @@ impl End {
 
     // The manager's or the members' sensitivity of a zone.
     pub fn sensitivity(self, zone: MpeZone, manager: bool) -> MpeSensitivity
-        ensures { λ r. ⌜ r ≡ sensitivityOf (self .receiver) zone manager ⌝ }
+        ensures is { λ r. ⌜ r ≡ sensitivityOf (self .receiver) zone manager ⌝ }
+        ensures call { λ r. ⌜ (ranged r ≡ answer self (sensitivity zone manager)) × (self ≡ next self (sensitivity zone manager)) ⌝ }
     {
         let receiver = self.receiver;
         receiver.sensitivity(zone, manager)
     }
 
     pub fn pitch_bend(self, channel: u8) -> u16
-        ensures { λ r. ⌜ r ≡ bendAt (self .receiver) channel ⌝ }
+        ensures is { λ r. ⌜ r ≡ bendAt (self .receiver) channel ⌝ }
+        ensures call { λ r. ⌜ (counted r ≡ answer self (pitchBend channel)) × (self ≡ next self (pitchBend channel)) ⌝ }
     {
         let receiver = self.receiver;
         receiver.pitch_bend(channel)
     }
 
     pub fn pressure(self, channel: u8) -> u8
-        ensures { λ r. ⌜ r ≡ pressureAt (self .receiver) channel ⌝ }
+        ensures is { λ r. ⌜ r ≡ pressureAt (self .receiver) channel ⌝ }
+        ensures call { λ r. ⌜ (counted r ≡ answer self (pressure channel)) × (self ≡ next self (pressure channel)) ⌝ }
     {
         let receiver = self.receiver;
         receiver.pressure(channel)
     }
 
     pub fn brightness(self, channel: u8) -> u8
-        ensures { λ r. ⌜ r ≡ brightnessAt (self .receiver) channel ⌝ }
+        ensures is { λ r. ⌜ r ≡ brightnessAt (self .receiver) channel ⌝ }
+        ensures call { λ r. ⌜ (counted r ≡ answer self (brightness channel)) × (self ≡ next self (brightness channel)) ⌝ }
     {
         let receiver = self.receiver;
         receiver.brightness(channel)
     }
 
-    // The channel's offset in hundredths of a cent.
+    // The channel's offset in hundredths of a cent, from -2,565,714 to 2,565,400.
     pub fn pitch_offset(self, channel: u8) -> Offset
-        ensures { λ r. ⌜ offsetRead r ≡ offsetOf (self .receiver) channel ⌝ }
+        ensures is { λ r. ⌜ offsetRead r ≡ offsetOf (self .receiver) channel ⌝ }
+        ensures call { λ r. ⌜ (offset (offsetRead r) ≡ answer self (pitchOffset channel)) × (self ≡ next self (pitchOffset channel)) ⌝ }
+        ensures within { λ r. ⌜ ((z : ℤ) → offsetRead r ≡ given z → Within 2565714 2565400 z) ⌝ }
     {
         let receiver = self.receiver;
         receiver.pitch_offset(channel)

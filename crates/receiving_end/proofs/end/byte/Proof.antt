@@ -41,6 +41,7 @@ use denote.Triple.Table.{entered, cited}
 use denote.Triple.Walked.{says, Stays, stay-ref, stay-none, walkOf, AllGo, goes-none, goes-ref, Walks, ends-at, walked, walk-meets}
 use denote.Exit.{yes}
 use Rattle.receiving_end.specs.End.{stepEnd, stepReply}
+use Rattle.receiving_end.specs.Lists.{byteByValue, replied, answer, next}
 use Rattle.receiving_end.specs.declared.end.End.{End}
 use Rattle.receiving_end.specs.declared.end.Reply.{Reply}
 use Rattle.receiving_end.specs.declared.end.Stepped.{Stepped}
@@ -85,7 +86,9 @@ module _ {M : Type 1} (𝓤 : URA M) (H : Heap 𝓤) (A : Atoms 𝓤) (mem : Mem
 
   -- what `step` ensures of its result s
   abbrev Right : End → ℕ → Stepped → Type 0
-  Right e n s = (s .reply ≡ stepReply e n) × (s .end ≡ stepEnd e n)
+  Right e n s =
+      ((s .reply ≡ stepReply e n) × (s .end ≡ stepEnd e n))
+      × ((answer e (byteByValue n) ≡ replied (s .reply)) × (next e (byteByValue n) ≡ s .end))
 
   stepped-of : (e : End) (n : ℕ) (s : Stepped) → ent 𝓤 (ensured 𝓤 H A step.ended (step.clauses 𝓤 H A mem run) tt (e, (n, tt)) tt s) (fact 𝓤 (Right e n s))
   stepped-of e n s = exE 𝓤 _ (λ ws. snd∗ 𝓤 (sem 𝓤 H A (lasts step.ended tt (e, (n, tt)) ws)) (fact 𝓤 (Right e n s)))

@@ -4,7 +4,8 @@ use borrow.Author.Needs.{needs}
 use Rattle.receiving_end.proofs.end.step.Statement.{statement}
 use Rattle.receiving_end.proofs.end.step.Tie as tie
 use Rattle.receiving_end.specs.End.{stepOf}
-use mathlib.Core.Path.{_≡_, ap}
+use Rattle.receiving_end.specs.Lists.{replied}
+use mathlib.Core.Path.{_≡_, ap, sym}
 
 step-requires : tie.Need-step-requires
 step-requires c κs = search needs
@@ -16,7 +17,9 @@ returns : tie.Need-returns
 unfolding stepOf
 returns c =
     let s : c .answer .result ≡ stepOf (c .before .before .before .before .args .end) (c .before .before .before .before .args .b) = cc in
-    (ap (λ x. x .reply) s, ap (λ x. x .end) s)
+    let reply = ap (λ x. x .reply) s in
+    let end = ap (λ x. x .end) s in
+    ((reply, end), (ap replied (sym reply), sym end))
 
 pub step-spec : {M : Type 1} → statement M
 step-spec = tie.close (tie.spec step-requires answer-requires returns)

@@ -9,7 +9,7 @@ use native.Mathlib.Omega.{arith}
 use lib.ListN.{length, take}
 use lib.Seq.{take-all}
 use Rattle.receiving_end.specs.Lists.{afterBytes}
-use Rattle.receiving_end.proofs.Bytes.{one-byte-more}
+use Rattle.receiving_end.proofs.Bytes.{one-byte-more, bytes-are-calls}
 
 abbrev Inv-loop : tie.InvT-loop
 Inv-loop bytes e₀ i₀ e i = (i ≤ length bytes) × (e ≡ afterBytes e₀ (take i bytes))
@@ -37,12 +37,13 @@ loop-again : tie.Need-loop-again Inv-loop μ-loop
 loop-again c =
     let a = c .before .before .before .before .before .before .args in
     let i = c .before .before .before .before .loop in
-    (omega arith, c .before .step .ensures .1 ∙ one-byte-more (a .end) (a .bytes .now) (i .i) (omega arith) (i .inv .1))
+    (omega arith, c .before .step .ensures .0 .1 ∙ one-byte-more (a .end) (a .bytes .now) (i .i) (omega arith) (i .inv .1))
 
 returns : tie.Need-returns Inv-loop μ-loop
 returns c =
     let a = c .before .before .before .args in
-    c .before .loop .inv .1 ∙ ap (λ l. afterBytes (a .end) l) (take-all (c .before .loop .i) (a .bytes .now) (omega arith))
+    let all = c .before .loop .inv .1 ∙ ap (λ l. afterBytes (a .end) l) (take-all (c .before .loop .i) (a .bytes .now) (omega arith)) in
+    (all, all ∙ bytes-are-calls (a .end) (a .bytes .now))
 
 pub step-all-spec : {M : Type 1} → statement M
 step-all-spec =

@@ -1,6 +1,6 @@
 -- `receiving_end::end::End::set_nrpn_reception` meets its contract.
 -- Assumes nothing.
-use mathlib.Core.Path.{ap, _∙_}
+use mathlib.Core.Path.{refl, ap, _∙_}
 use borrow.Author.Needs.{needs}
 use Rattle.ump.specs.Packet.{packetValue}
 use Rattle.parameters.specs.State.{nrpnSwitched}
@@ -23,8 +23,9 @@ with-parameter-requires c κs = search needs
 returns : tie.Need-returns
 returns c =
     let a = c .before .before .before .args in
-    c .with-parameter .ensures
-    ∙ ap (withParameter (a .self) (packetValue (a .channel))) (c .before .set-nrpn-reception .ensures ∙ ap (λ p. nrpnSwitched p (a .on)) (c .before .before .parameter .ensures))
+    let end = c .with-parameter .ensures
+    ∙ ap (withParameter (a .self) (packetValue (a .channel))) (c .before .set-nrpn-reception .ensures ∙ ap (λ p. nrpnSwitched p (a .on)) (c .before .before .parameter .ensures)) in
+    (end, (refl, end))
 
 pub set-nrpn-reception-spec : {M : Type 1} → statement M
 set-nrpn-reception-spec =
