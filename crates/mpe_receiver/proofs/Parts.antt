@@ -6,7 +6,6 @@ use mathlib.Core.Bool.{Bool, true, false, true≢false}
 use mathlib.Core.List.{List}
 use native.Mathlib.Nat.{zero-div}
 use lib.Dec.{eqb}
-use Rattle.ump.specs.Choice.{if_then_else_}
 use Rattle.ump.specs.Outcome.{Outcome, given, declined, outOfRange}
 use Rattle.ump.specs.Word.{wordForm}
 use Rattle.ump.proofs.Cases.{by-test, of-both, chosen, passed}

@@ -1,6 +1,6 @@
 -- What a message does to a receiver (document 01, "The receiver"; M1-100 2.2 and 2.3): it is stored, the zones are updated, and the channels that its event names are put to rest.
 use Prim.Native.Nat.{ℕ, zero, suc, _+_, _*_}
-use mathlib.Core.Bool.{Bool, true}
+use mathlib.Core.Bool.{Bool}
 use mathlib.Core.List.{List}
 use lib.ListN.{set}
 use lib.Dec.{eqb}

@@ -7,7 +7,7 @@ ghost use Rattle.mpe_layout.specs.Reset.{maskFound};
 ghost use Rattle.mpe_pitch.specs.Claims.{Within};
 ghost use Rattle.mpe_zones.specs.Update.{mpeReplyRead, resetIn};
 ghost use Rattle.mpe_receiver.specs.State.{newReceiver, zonesOf, withZones};
-ghost use Rattle.mpe_receiver.specs.Receive.{stored, restUpto, receivedByWord, receiverReply, receiverAfter, setReply, setState, settled};
+ghost use Rattle.mpe_receiver.specs.Receive.{stored, restUpto, receiverReply, receiverAfter, setReply, setState, settled};
 ghost use Rattle.mpe_receiver.specs.Read.{modeOf, sensitivityOf, bendAt, pressureAt, brightnessAt, managerOffset, memberOffset, offsetByRole, offsetOf, offsetRead};
 use mpe_layout::MpeLayout;
 use mpe_layout::MpeRole;

@@ -6,7 +6,7 @@ ghost use Prim.Native.Nat.{_<_};
 ghost use Rattle.ump.specs.Outcome.{given};
 ghost use Rattle.ump.specs.Packet.{packetValue};
 ghost use Rattle.parameters.specs.State.{parameterReplyRead};
-ghost use Rattle.mpe_receiver.specs.Receive.{receiverReplyRead};
+ghost use Rattle.mpe_zones.specs.Update.{mpeReplyRead};
 ghost use Rattle.parameters.specs.State.{selectionOf};
 ghost use Rattle.mpe_layout.specs.Reset.{maskFound};
 ghost use Rattle.mpe_pitch.specs.Claims.{Within};
@@ -24,6 +24,7 @@ use mpe_pitch::MpeSensitivity;
 use mpe_receiver::MpeReceiver;
 use mpe_receiver::Offset;
 use mpe_zones::MpeEvent;
+use mpe_zones::MpeReply;
 use parameters::MaybeEvent;
 use parameters::ParameterState;
 use parameters::Selection;
@@ -66,12 +67,12 @@ fn event_in(reply: parameters::Reply) -> MaybeEvent
     }
 }
 
-fn mpe_in(reply: mpe_receiver::Reply) -> MpeEvent
-    ensures { λ r. ⌜ r ≡ mpeIn (receiverReplyRead reply) ⌝ }
+fn mpe_in(reply: MpeReply) -> MpeEvent
+    ensures { λ r. ⌜ r ≡ mpeIn (mpeReplyRead reply) ⌝ }
 {
     match reply {
-        mpe_receiver::Reply::Received(e) => e,
-        mpe_receiver::Reply::OutOfRange => MpeEvent::Ignored,
+        MpeReply::Received(e) => e,
+        MpeReply::OutOfRange => MpeEvent::Ignored,
     }
 }
 
@@ -88,11 +89,11 @@ fn message_at(end: End, k: usize, word: u32) -> Stepped
     ensures { λ r. ⌜ r ≡ messageAt end k word ⌝ }
 {
     let p = end.parameter(k);
-    let heard = p.receive(word);
-    let state = heard.state;
-    let said = heard.reply;
+    let update = p.receive(word);
+    let state = update.state;
+    let reply = update.reply;
     let receiver = end.receiver;
-    let got = receiver.receive(word, event_in(said));
+    let got = receiver.receive(word, event_in(reply));
     let next = got.receiver;
     let answered = got.reply;
     let event = mpe_in(answered);
