@@ -38,12 +38,19 @@ arrives-received e (lent {b} a) = arrives-received (stepEnd e b) a
 arrives-received e (between-by-value {b} h a) = rw (system-read e b h) (arrives-received e a)
 arrives-received e (between-lent {b} h a) = rw (system-read e b h) (arrives-received e a)
 
+-- on a new end RPN reception is on and NRPN reception off
+new-switches : (k : ℕ) → k < 16 → AsNew (parameterAt newEnd k)
+new-switches k hk = subst AsNew (sym (getD-replicate 16 k newState blankState hk)) (record { rpn-on = refl; nrpn-off = refl })
+
 -- the switches of each channel, as they read
 switches : (e : End) → SwitchesAsNew e → (k : ℕ) → k < 16 → AsNew (parameterAt e k)
 switches e n k hk =
     let m : k % 16 ≡ k = omega arith in
-    let a = n .rpn-on k in
-    let b = n .nrpn-off k in
+    let new = new-switches (k % 16) (omega arith) in
+    let a = n .rpn-as-new k in
+    let b = n .nrpn-as-new k in
+    let c = new .rpn-on in
+    let d = new .nrpn-off in
     record {
       rpn-on = ap (λ i. parameterAt e i .«rpn_on») (sym m) ∙ cc;
       nrpn-off = ap (λ i. parameterAt e i .«nrpn_on») (sym m) ∙ cc;
@@ -93,9 +100,6 @@ module _ (s : Settings) (h : allowed s ≡ true) where
         shows-pressure = λ channel. ap counted (c .pressures-below (channel % 16) (omega arith));
         shows-brightness = λ channel. ap counted (c .brightnesses-below (channel % 16) (omega arith));
       }
-
-  new-switches : (k : ℕ) → k < 16 → AsNew (parameterAt newEnd k)
-  new-switches k hk = subst AsNew (sym (getD-replicate 16 k newState blankState hk)) (record { rpn-on = refl; nrpn-off = refl })
 
   -- after any history with the switches as new
   abbrev After : List Call → End

@@ -11,14 +11,14 @@ use Rattle.mpe_pitch.specs.declared.MpeSensitivity.{MpeSensitivity}
 use Rattle.mpe_pitch.specs.Pitch.{managerDefault, memberDefault}
 use Rattle.receiving_end.specs.declared.end.End.{End}
 use Rattle.receiving_end.specs.End.{newEnd}
-use Rattle.receiving_end.specs.Lists.{Call, byteByValue, byteLent, layout, mode, sensitivity, pitchBend, pressure, brightness, rpnReception, nrpnReception, laidOut, counted, ranged, switched, answer, after, answers, afterBytes}
+use Rattle.receiving_end.specs.Lists.{Call, byteByValue, byteLent, layout, mode, sensitivity, pitchBend, pressure, brightness, rpnReception, nrpnReception, laidOut, counted, ranged, answer, after, answers, afterBytes}
 use Rattle.settings.specs.declared.Settings.{Settings}
 use Rattle.settings.specs.Settings.{zoneOf, membersIn, bendOn, pressureOn, brightnessOn}
 
 -- every reception switch reads as on a new end
 pub record SwitchesAsNew (e : End) : Type 0 where
-  pub rpn-on : (channel : ℕ) → answer e (rpnReception channel) ≡ switched true
-  pub nrpn-off : (channel : ℕ) → answer e (nrpnReception channel) ≡ switched false
+  pub rpn-as-new : (channel : ℕ) → answer e (rpnReception channel) ≡ answer newEnd (rpnReception channel)
+  pub nrpn-as-new : (channel : ℕ) → answer e (nrpnReception channel) ≡ answer newEnd (nrpnReception channel)
 
 -- these calls bring these bytes whole, each by value or lent, with at most bytes F8 to FF before, between and after them
 pub data Arrives : List ℕ → List Call → Type 0 where
