@@ -11,8 +11,9 @@ ghost use Rattle.ump.specs.Packet.{packetValue};
 ghost use Rattle.mpe_layout.specs.Layout.{legal};
 ghost use Rattle.mpe_sender.specs.Zone.{filled, writtenRead};
 ghost use Rattle.settings.specs.Settings.{zoneAllowed, channelAllowed, andChannel, channelsAllowed, allowed};
-ghost use Rattle.settings.specs.Messages.{resets, announcements, sensitivities, modes, deselections, controls, messages, bytesOf, bytes, restatement, oneIfAny, messageCount, byteCount, restatedReply, wordsIn, countIn};
+ghost use Rattle.settings.specs.Messages.{resets, announcements, sensitivities, modes, deselections, controls, messages, bytesOf, bytes, restatement, oneIfAny, messageCount, byteCount, restatedReply, CountsHold, wordsIn, countIn};
 ghost use Rattle.settings.specs.Demand.{Demand};
+ghost use Rattle.settings.specs.Witnesses.{Met};
 use mpe_layout::MadeLayout;
 use mpe_layout::MpeLayout;
 use mpe_layout::MpeZone;
@@ -306,10 +307,11 @@ fn byte_count(layout: MpeLayout) -> usize
 }
 
 // Writes the messages that bring any end to these settings, as words at the front of `out`. Settings outside their limits are out of range; then a
-// short buffer is too small.
+// short buffer is too small. What `counts` says is that the counts in the replies are those of the messages and of their bytes.
 pub fn restatement_words(settings: Settings, out: &mut [u32]) -> Written
     ensures reply { λ r. ⌜ writtenRead r ≡ restatedReply settings (messageCount (settings .layout)) (length (now (out .entry))) ⌝ }
     ensures buffer { λ _. ⌜ now (out .exit) ≡ filled (restatedReply settings (messageCount (settings .layout)) (length (now (out .entry)))) (messages settings) (now (out .entry)) ⌝ }
+    ensures counts { λ _. ⌜ CountsHold ⌝ }
 {
     if !is_allowed(settings) {
         return Written::OutOfRange;
@@ -359,11 +361,12 @@ fn write_bytes(words: &[u32], n: usize, out: &mut [u8])
 const MOST_MESSAGES: usize = 158;
 
 // Writes the restatement of these settings: the same messages as bytes, each with its own status byte. What `demand` says is demand 3, of the very
-// bytes written.
+// bytes written, and `met` that its hypotheses can be met.
 pub fn restatement_bytes(settings: Settings, out: &mut [u8]) -> Written
     ensures reply { λ r. ⌜ writtenRead r ≡ restatedReply settings (byteCount (settings .layout)) (length (now (out .entry))) ⌝ }
     ensures buffer { λ _. ⌜ now (out .exit) ≡ filled (restatedReply settings (byteCount (settings .layout)) (length (now (out .entry)))) (restatement settings) (now (out .entry)) ⌝ }
     ensures demand { λ r. ⌜ ((n : ℕ) → writtenRead r ≡ given n → Demand settings (take n (now (out .exit)))) ⌝ }
+    ensures met { λ r. ⌜ ((n : ℕ) → writtenRead r ≡ given n → Met settings (take n (now (out .exit)))) ⌝ }
 {
     if !is_allowed(settings) {
         return Written::OutOfRange;

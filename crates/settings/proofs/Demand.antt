@@ -30,7 +30,7 @@ use Rattle.settings.proofs.Settle.{Controlled}
 use Rattle.settings.proofs.Restated.{heldBy, shownZones, restated, same-end}
 
 -- calls that bring bytes are afterBytes as these bytes
-arrives-received : (e : End) {bytes : List ℕ} {calls : List Call} → Arrives bytes calls → after e calls ≡ afterBytes e bytes
+pub arrives-received : (e : End) {bytes : List ℕ} {calls : List Call} → Arrives bytes calls → after e calls ≡ afterBytes e bytes
 unfolding after afterBytes
 arrives-received e whole = refl
 arrives-received e (by-value {b} a) = arrives-received (stepEnd e b) a

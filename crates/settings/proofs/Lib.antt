@@ -10,3 +10,4 @@ pub mod Sense
 pub mod Settle
 pub mod Restated
 pub mod Demand
+pub mod Witnesses

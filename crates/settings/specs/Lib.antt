@@ -1,4 +1,5 @@
--- Definitions that the contracts cite: settings, the messages that restate them, and demand 3.
+-- Definitions that the contracts cite: settings, the messages that restate them, demand 3, and that it is not vacuous.
 pub mod Settings
 pub mod Messages
 pub mod Demand
+pub mod Witnesses

@@ -1,23 +1,30 @@
--- `restatement::restatement_bytes` meets its contract: refused, too small, or the bytes of all the messages, of which demand 3 holds.
+-- `restatement::restatement_bytes` meets its contract: refused, too small, or the bytes of all the messages, of which demand 3 holds, with its hypotheses met.
 -- Assumes nothing.
 use mathlib.Core.Path.{_≡_, refl, sym, ap, subst, _∙_}
 use Prim.Native.Nat.{ℕ, _<_, _≤_}
 use mathlib.Core.Bool.{true, false}
-use mathlib.Core.List.{_++_}
+use mathlib.Core.List.{List, _++_}
 use lib.ListN.{length, take, drop, replicate}
 use lib.Seq.{sets, length-sets}
 use borrow.Author.Tests.{not-true, not-false, lt-ltb, le-ltb}
+use Rattle.ump.specs.Outcome.{Outcome, given, declined}
 use Rattle.settings.specs.Settings.{allowed}
 use Rattle.settings.specs.Messages.{messages, bytes, restatement, messageCount, byteCount, restatedReply}
 use Rattle.settings.specs.Demand.{Demand}
+use Rattle.settings.specs.Witnesses.{Met}
 use Rattle.settings.proofs.Allowed.{allowed-legal}
 use Rattle.restatement.proofs.Sets.{sets-front, take-front}
 use Rattle.settings.proofs.Counts.{message-count, most-messages, byte-count}
 use Rattle.settings.proofs.Demand.{demand-holds}
+use Rattle.settings.proofs.Witnesses.{demand-met}
 use borrow.Author.Needs.{needs}
 use native.Mathlib.Omega.{arith}
 use Rattle.restatement.proofs.restatement_bytes.Statement.{statement}
 use Rattle.restatement.proofs.restatement_bytes.Tie as tie
+
+-- a refusal wrote no count of bytes
+refused : {P : Type 0} {k n : ℕ} {values : List ℕ} → _≡_ {A = Outcome ℕ} (declined k values) (given n) → P
+refused e = absurd (let z : _≡_ {A = ℕ} 0 1 = cc in omega arith)
 
 is-allowed-requires : tie.Need-is-allowed-requires
 is-allowed-requires c κs = search needs
@@ -28,7 +35,7 @@ returns c = let a = c .before in
     let b = a .before .before in
     let s = b .args .settings in
     let t : allowed s ≡ false = sym (a .is-allowed .ensures) ∙ not-true _ (c .if1 .taken) in
-    rw t (refl, (refl, λ i e. absurd (let z : _≡_ {A = ℕ} 0 1 = cc in omega arith)))
+    rw t (refl, (refl, (λ i e. refused e, λ i e. refused e)))
 
 byte-count-requires : tie.Need-byte-count-requires
 byte-count-requires c κs = search needs
@@ -42,7 +49,7 @@ returns-2 c = let a = c .before .before .before in
     let t : allowed s ≡ true = sym (a .is-allowed .ensures) ∙ not-false _ (c .before .before .if1 .left) in
     let n = c .before .byte-count .ensures in
     let h : length o < byteCount (s .layout) = omega (arith, n, c .if2 .taken) in
-    rw (t, lt-ltb (length o) (byteCount (s .layout)) h, n) (refl, (refl, λ i e. absurd (let z : _≡_ {A = ℕ} 0 1 = cc in omega arith)))
+    rw (t, lt-ltb (length o) (byteCount (s .layout)) h, n) (refl, (refl, (λ i e. refused e, λ i e. refused e)))
 
 slice-aggregate-write-messages : tie.Need-slice-aggregate-write-messages
 slice-aggregate-write-messages c = search needs
@@ -100,12 +107,13 @@ returns-3 c = let w = c .before .before in
     let h : byteCount (s .layout) ≤ length o = omega (arith, n, m .before .before .if2 .left) in
     let e : x ≡ restatement s ++ drop (byteCount (s .layout)) o = k ∙ sets-front o (restatement s) (rw q h) ∙ rw q in
     let p : take (byteCount (s .layout)) x ≡ restatement s = ap (λ l. take (byteCount (s .layout)) l) k ∙ take-front o (restatement s) (byteCount (s .layout)) q h in
+    let written : (i : ℕ) → _≡_ {A = Outcome ℕ} (given (byteCount (s .layout))) (given i) → take i x ≡ restatement s =
+    λ i g. let j : byteCount (s .layout) ≡ i = cc in ap (λ r. take r x) (sym j) ∙ p in
     rw (t, le-ltb (length o) (byteCount (s .layout)) h, n) (
       refl,
       (
         e,
-        λ i g. let j : byteCount (s .layout) ≡ i = cc in
-            subst (λ l. Demand s l) (sym (ap (λ r. take r x) (sym j) ∙ p)) (demand-holds s t),
+        (λ i g. subst (λ l. Demand s l) (sym (written i g)) (demand-holds s t), λ i g. subst (λ l. Met s l) (sym (written i g)) (demand-met s t)),
       ),
     )
 

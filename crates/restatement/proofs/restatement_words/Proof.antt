@@ -1,4 +1,4 @@
--- `restatement::restatement_words` meets its contract: refused, too small, or all the messages.
+-- `restatement::restatement_words` meets its contract: refused, too small, or all the messages; and the counts hold.
 -- Assumes nothing.
 use mathlib.Core.Path.{_≡_, refl, sym, _∙_}
 use Prim.Native.Nat.{_<_, _≤_}
@@ -9,7 +9,7 @@ use borrow.Author.Tests.{not-true, not-false, lt-ltb, le-ltb}
 use Rattle.settings.specs.Settings.{allowed}
 use Rattle.settings.specs.Messages.{messages, messageCount, restatedReply}
 use Rattle.restatement.proofs.Sets.{sets-front}
-use Rattle.settings.proofs.Counts.{message-count}
+use Rattle.settings.proofs.Counts.{message-count, counts-hold}
 use borrow.Author.Needs.{needs}
 use native.Mathlib.Omega.{arith}
 use Rattle.restatement.proofs.restatement_words.Statement.{statement}
@@ -24,7 +24,7 @@ returns c = let a = c .before in
     let b = a .before .before in
     let s = b .args .settings in
     let t : allowed s ≡ false = sym (a .is-allowed .ensures) ∙ not-true _ (c .if1 .taken) in
-    rw t (refl, refl)
+    rw t (refl, (refl, counts-hold))
 
 message-count-requires : tie.Need-message-count-requires
 message-count-requires c κs = search needs
@@ -38,7 +38,7 @@ returns-2 c = let a = c .before .before .before in
     let t : allowed s ≡ true = sym (a .is-allowed .ensures) ∙ not-false _ (c .before .before .if1 .left) in
     let n = c .before .message-count .ensures in
     let h : length o < messageCount (s .layout) = omega (arith, n, c .if2 .taken) in
-    rw (t, lt-ltb (length o) (messageCount (s .layout)) h, n) (refl, refl)
+    rw (t, lt-ltb (length o) (messageCount (s .layout)) h, n) (refl, (refl, counts-hold))
 
 write-messages-requires : tie.Need-write-messages-requires
 write-messages-requires c κs = let a = c .before .before .before .before in
@@ -64,7 +64,7 @@ returns-3 c = let d = c .before .before in
     let m = message-count s t in
     let w : d .write-messages .last .1 .0 ≡ messages s ++ drop (messageCount (s .layout)) o =
     d .write-messages .ensures ∙ sets-front o (messages s) (rw m h) ∙ rw m in
-    rw (t, le-ltb (length o) (messageCount (s .layout)) h, n) (refl, w)
+    rw (t, le-ltb (length o) (messageCount (s .layout)) h, n) (refl, (w, counts-hold))
 
 pub restatement-words-spec : {M : Type 1} → statement M
 restatement-words-spec =
