@@ -1,3 +1,4 @@
 -- Laws that the writers' proofs cite.
 mod Sets
 mod Made
+mod Reply

@@ -306,23 +306,33 @@ fn byte_count(layout: MpeLayout) -> usize
     3 * message_count(layout) - 16
 }
 
-// Writes the messages that bring any end to these settings, as words at the front of `out`. Settings outside their limits are out of range; then a
-// short buffer is too small. What `counts` says is that the counts in the replies are those of the messages and of their bytes.
+// What a writer answers that needs so many elements: settings outside their limits are out of range; then a short buffer is too small.
+fn restated_reply(settings: Settings, needed: usize, got: usize) -> Written
+    ensures { λ r. ⌜ writtenRead r ≡ restatedReply settings needed got ⌝ }
+{
+    let allowed = is_allowed(settings);
+    if !allowed {
+        return Written::OutOfRange;
+    }
+    if got < needed {
+        return Written::TooSmall { needed, got };
+    }
+    Written::Count(needed)
+}
+
+// Writes the messages that bring any end to these settings, as words at the front of `out`. What `counts` says is that the
+// counts in the replies of both writers are those of the messages and of their bytes.
 pub fn restatement_words(settings: Settings, out: &mut [u32]) -> Written
     ensures reply { λ r. ⌜ writtenRead r ≡ restatedReply settings (messageCount (settings .layout)) (length (now (out .entry))) ⌝ }
     ensures buffer { λ _. ⌜ now (out .exit) ≡ filled (restatedReply settings (messageCount (settings .layout)) (length (now (out .entry)))) (messages settings) (now (out .entry)) ⌝ }
     ensures counts { λ _. ⌜ CountsHold ⌝ }
 {
-    if !is_allowed(settings) {
-        return Written::OutOfRange;
-    }
-    let needed = message_count(settings.layout);
-    let got = out.len();
-    if got < needed {
-        return Written::TooSmall { needed, got };
-    }
+    let reply = restated_reply(settings, message_count(settings.layout), out.len());
+    let Written::Count(n) = reply else {
+        return reply;
+    };
     write_messages(settings, out);
-    Written::Count(needed)
+    Written::Count(n)
 }
 
 // Puts the bytes of a message at a place, and gives the place after them.
@@ -368,16 +378,12 @@ pub fn restatement_bytes(settings: Settings, out: &mut [u8]) -> Written
     ensures demand { λ r. ⌜ ((n : ℕ) → writtenRead r ≡ given n → Demand settings (take n (now (out .exit)))) ⌝ }
     ensures met { λ r. ⌜ ((n : ℕ) → writtenRead r ≡ given n → Met settings (take n (now (out .exit)))) ⌝ }
 {
-    if !is_allowed(settings) {
-        return Written::OutOfRange;
-    }
-    let needed = byte_count(settings.layout);
-    let got = out.len();
-    if got < needed {
-        return Written::TooSmall { needed, got };
-    }
+    let reply = restated_reply(settings, byte_count(settings.layout), out.len());
+    let Written::Count(n) = reply else {
+        return reply;
+    };
     let mut words: [u32; MOST_MESSAGES] = [0; MOST_MESSAGES];
     write_messages(settings, &mut words);
     write_bytes(&words, message_count(settings.layout), out);
-    Written::Count(needed)
+    Written::Count(n)
 }
