@@ -26,7 +26,8 @@ use Rattle.mpe_zones.specs.declared.Zones.{Zones}
 use Rattle.mpe_zones.specs.Zones.{withSensitivities, withMono, slotOf, sensitivityPut, roleHeld, isLowest}
 use Rattle.mpe_zones.specs.Update.{sensitivityApplied, onMember, plainEvent, modeEvent, modeSet}
 use Rattle.mpe_zones.specs.Update as zones
-use Rattle.mpe_zones.proofs.Kept.{applied-to, roleFor, rpnZero}
+use Rattle.mpe_zones.specs.Claims.{roleFor}
+use Rattle.mpe_zones.proofs.Kept.{applied-to, rpnZero}
 use Rattle.mpe_receiver.specs.declared.MpeReceiver.{MpeReceiver}
 use Rattle.mpe_receiver.specs.State.{zonesOf}
 use Rattle.mpe_receiver.specs.Receive.{stored, receivedByFields}
