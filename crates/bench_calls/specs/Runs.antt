@@ -28,7 +28,7 @@ channelIn (declined n v) = 0
 abbrev pub added : ℕ → ℕ → ℕ
 added sum n = (sum + n) % 2 ^ 64
 
--- the end tells the offset of each of the channels, and their magnitudes are added
+-- the end gives the offset of each of the channels, and their magnitudes are added
 unfoldable pub offsetsSum : End → ℕ → List ℕ → ℕ
 offsetsSum e sum [] = sum
 offsetsSum e sum (c ∷ cs) = offsetsSum e (added sum (magnitudeIn (offsetOf (e .receiver) c))) cs

@@ -30,7 +30,7 @@ fn magnitude(offset: Offset) -> u32
     }
 }
 
-// A new end hears the bytes, and then tells the offset of each of the channels: the sum of their magnitudes.
+// A new end receives the bytes, and then gives the offset of each of the channels: the sum of their magnitudes.
 #[no_mangle]
 pub extern "C" fn gurfemau_offsets(bytes: &[u8], channels: &[u8]) -> u64
     ensures { λ r. ⌜ r ≡ offsetsSum (afterBytes newEnd (now (bytes .entry))) 0 (now (channels .entry)) ⌝ }

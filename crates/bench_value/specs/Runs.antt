@@ -8,7 +8,7 @@ use Rattle.bench_lent.specs.Code.{replyCode}
 abbrev pub addedReply : ℕ → ℕ → ℕ
 addedReply sum n = (sum + n) % 2 ^ 64
 
--- the end hears the bytes, and their replies are addedReply
+-- the end receives the bytes, and their replies are added
 unfoldable pub repliesSum : End → ℕ → List ℕ → ℕ
 repliesSum e sum [] = sum
 repliesSum e sum (b ∷ bs) = repliesSum (stepEnd e b) (addedReply sum (replyCode (stepReply e b))) bs

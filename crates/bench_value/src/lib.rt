@@ -6,7 +6,7 @@ use bench_lent::reply_code;
 use receiving_end::end::End;
 use receiving_end::end::step;
 
-// A new end hears the bytes by value: the sum of its replies.
+// A new end receives the bytes by value: the sum of its replies.
 #[no_mangle]
 pub extern "C" fn gurfemau_replies(bytes: &[u8]) -> u64
     ensures { λ r. ⌜ r ≡ repliesSum newEnd 0 (now (bytes .entry)) ⌝ }

@@ -17,7 +17,7 @@ struct Listening {
     well: bool,
 }
 
-// Reads once, and the end hears what came.
+// Reads once, and the end receives what came.
 fn listen(l: Listening) -> Listening {
     let mut next = l;
     let mut text = io::buffer();

@@ -89,9 +89,9 @@ fn message_at(end: End, k: usize, word: u32) -> Stepped
     ensures { λ r. ⌜ r ≡ messageAt end k word ⌝ }
 {
     let p = end.parameter(k);
-    let update = p.receive(word);
-    let state = update.state;
-    let reply = update.reply;
+    let updated = p.receive(word);
+    let state = updated.state;
+    let reply = updated.reply;
     let receiver = end.receiver;
     let got = receiver.receive(word, event_in(reply));
     let next = got.receiver;

@@ -53,7 +53,7 @@ loop-again c =
     let e = c .before .before .before .before .before .before .step-all .result in
     let one = offsets-left e (at .sum) l (at .i) (omega arith) in (
       omega arith,
-      rw (c .wrapping-add-u64 .ensures, c .before .magnitude .ensures, c .before .before .pitch-offset .ensures) (one ∙ at .inv .1),
+      rw (c .wrapping-add-u64 .ensures, c .before .magnitude .ensures, c .before .before .pitch-offset .ensures .0) (one ∙ at .inv .1),
     )
 
 returns : tie.Need-returns Inv-loop μ-loop
@@ -62,7 +62,7 @@ returns c =
     let at = c .before .loop in
     let l = c .before .before .before .before .before .before .args .channels .now in
     let e = c .before .before .step-all .result in
-    sym (ap (λ r. offsetsSum e (at .sum) r) (drop-of-length-le l {i = at .i} (omega arith))) ∙ at .inv .1 ∙ rw (c .before .before .step-all .ensures, c .before .before .before .new .ensures) refl
+    sym (ap (λ r. offsetsSum e (at .sum) r) (drop-of-length-le l {i = at .i} (omega arith))) ∙ at .inv .1 ∙ rw (c .before .before .step-all .ensures .0, c .before .before .before .new .ensures .0) refl
 
 pub gurfemau-offsets-spec : {M : Type 1} → statement M
 gurfemau-offsets-spec =

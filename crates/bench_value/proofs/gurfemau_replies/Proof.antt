@@ -21,7 +21,7 @@ new-requires : tie.Need-new-requires Inv-loop μ-loop
 new-requires c κs = search needs
 
 loop-holds : tie.Need-loop-holds Inv-loop μ-loop
-loop-holds c = (omega arith, rw (c .new .ensures) refl)
+loop-holds c = (omega arith, rw (c .new .ensures .0) refl)
 
 shared-slice-read-step : tie.Need-shared-slice-read-step Inv-loop μ-loop
 shared-slice-read-step c = omega arith
@@ -47,7 +47,7 @@ loop-again c =
     let l = c .before .before .before .before .before .before .before .before .before .args .bytes .now in
     let one = replies-left (at .e) (at .sum) l (at .i) (omega arith) in (
       omega arith,
-      rw (c .before .before .before .step .ensures .1, c .wrapping-add-u64 .ensures, c .before .reply-code .ensures, c .before .before .before .step .ensures .0) (one ∙ at .inv .1),
+      rw (c .before .before .before .step .ensures .0 .1, c .wrapping-add-u64 .ensures, c .before .reply-code .ensures, c .before .before .before .step .ensures .0 .0) (one ∙ at .inv .1),
     )
 
 returns : tie.Need-returns Inv-loop μ-loop
