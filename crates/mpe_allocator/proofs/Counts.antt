@@ -49,7 +49,7 @@ pub record Kept (active : List ℕ) (t : Tally) : Type 0 where
   pub sixteen : length active ≡ 16
   pub sums : t .reached ≡ false → sum active + t .offs ≡ t .ons
 
--- a tally afterCalls a note that got g channels
+-- a tally after a note that got g channels
 abbrev noted : Tally → ℕ → List ℕ → Tally
 noted t g active = record { ons = t .ons + g; offs = t .offs; reached = t .reached || full active }
 
@@ -114,7 +114,7 @@ off-by a t c false e b k =
     released-kept (a .active) c (heldOn a c - 1) t b k (omega arith) refl
 
 step : (a : MpeNoteAllocator) (t : Tally) (call : AllocatorCall) → Kept (a .active) t → Kept (afterCall a call .active) (tallied a t call)
-unfolding afterCall tallied withoutNote sum
+unfolding tallied withoutNote sum
 step a t (note-on l zone note) k = note-kept a t l zone note k
 step a t (note-off channel) k = off-by a t (packetValue channel) (eqb (heldOn a (packetValue channel)) 0) refl (omega arith) k
 step a t (active-notes channel) k = k
@@ -131,5 +131,5 @@ new-kept : Kept (emptied false .active) noTally
 unfolding sum
 new-kept = record { sixteen = refl; sums = λ h. refl }
 
-pub counts-sum : CountsSum
+pub counts-sum : CountsSum (emptied false)
 counts-sum calls h = kept (emptied false) noTally calls new-kept .sums h

@@ -1,6 +1,6 @@
 -- What the answers about a zone tell, and what a note gets by them, which `allocationOf` computes.
 -- Assumes nothing.
-use mathlib.Core.Path.{_≡_, refl}
+use mathlib.Core.Path.{_≡_, refl, sym, ap, subst}
 use mathlib.Core.Bool.{Bool, true, false}
 use Prim.Native.Nat.{ℕ, suc, _+_, _-_, _<_, _≤_}
 use native.Mathlib.Omega.{arith}
@@ -15,10 +15,13 @@ use Rattle.mpe_layout.specs.declared.MpeLayout.{MpeLayout}
 use Rattle.mpe_layout.proofs.Legal.{members-le}
 use Rattle.mpe_allocator.specs.declared.MpeNoteAllocator.{MpeNoteAllocator}
 use Rattle.mpe_allocator.specs.declared.Allocation.{Allocation}
-use Rattle.mpe_allocator.specs.declared.NoteReply.the-variants.{OutOfRange, NoMembers}
-use Rattle.mpe_allocator.specs.Choice.{markOf, Foremost, choice}
+use Rattle.mpe_allocator.specs.declared.NoteReply.the-variants.{Channel, OutOfRange, NoMembers}
+use Rattle.mpe_allocator.specs.Choice.{markOf, Foremost, Chosen, choice}
 use Rattle.mpe_allocator.specs.Allocator.{noteReplyRead, answered, placedOn, Placed, AllocatedAs, illegal, empty, placed, allocationOf}
+use Rattle.mpe_allocator.specs.Claims.{OfChannel, ChosenIsMember, OneChosen, RecallChosen, LeastChosen}
+use Rattle.mpe_allocator.specs.Calls.{note-on, note-reply, CallGives}
 use Rattle.mpe_allocator.proofs.Search.{only-one, choice-foremost}
+use Rattle.mpe_allocator.proofs.Read.{chosen-is-member, one-chosen, recall-chosen, least-chosen}
 
 -- ---- what `lowest_member` and `members` answered
 
@@ -84,28 +87,55 @@ moved a mark first n x y c p q f = rw (← p, ← q) f
 
 -- ---- what the note gets
 
+not-out : (fact : ℕ → Type 0) → OfChannel OutOfRange fact
+not-out fact c e = differ (cc)
+
+not-none : (fact : ℕ → Type 0) → OfChannel NoMembers fact
+not-none fact c e = differ (cc)
+
+the-channel : (fact : ℕ → Type 0) (c : ℕ) → fact c → OfChannel (Channel c) fact
+the-channel fact c f d e = subst fact (let i : c ≡ d = cc in i) f
+
 module _ (a : MpeNoteAllocator) (l : MpeLayout) (zone : MpeZone) (note : ℕ) where
-  -- both ways to say it
-  abbrev pub Both : Allocation → Type 0
-  Both r = AllocatedAs a l zone note (noteReplyRead (r .reply)) (r .allocator) × (r ≡ allocationOf a l zone note)
+  -- all that `note_on` promises, in its order
+  abbrev pub Promised : Allocation → Type 0
+  Promised r =
+      AllocatedAs a l zone note (noteReplyRead (r .reply)) (r .allocator)
+      × ((r ≡ allocationOf a l zone note)
+      × (CallGives a (note-on l zone note) (note-reply (r .reply)) (r .allocator)
+      × (OfChannel (r .reply) (ChosenIsMember l zone)
+      × (OfChannel (r .reply) (OneChosen a l zone note)
+      × (OfChannel (r .reply) (RecallChosen a l zone note) × OfChannel (r .reply) (LeastChosen a l zone note))))))
 
-  pub in-illegal : legal l ≡ false → Both (answered a OutOfRange)
+  listed : (r : Allocation) → r ≡ allocationOf a l zone note → CallGives a (note-on l zone note) (note-reply (r .reply)) (r .allocator)
+  listed r e = (ap (λ (x : Allocation). note-reply (x .reply)) e, ap (λ (x : Allocation). x .allocator) e)
+
+  pub in-illegal : legal l ≡ false → Promised (answered a OutOfRange)
   unfolding allocationOf
-  in-illegal h = (illegal h, rw h)
+  in-illegal h =
+      let e : answered a OutOfRange ≡ allocationOf a l zone note = rw h in
+      (illegal h, (e, (listed (answered a OutOfRange) e, (not-out _, (not-out _, (not-out _, not-out _))))))
 
-  pub in-empty : legal l ≡ true → membersOf l zone ≡ 0 → Both (answered a NoMembers)
+  pub in-empty : legal l ≡ true → membersOf l zone ≡ 0 → Promised (answered a NoMembers)
   unfolding allocationOf
-  in-empty h e = (empty h e, rw (h, eq-eqb (membersOf l zone) 0 e))
+  in-empty h m =
+      let e : answered a NoMembers ≡ allocationOf a l zone note = rw (h, eq-eqb (membersOf l zone) 0 m) in
+      (empty h m, (e, (listed (answered a NoMembers) e, (not-none _, (not-none _, (not-none _, not-none _))))))
 
-  pub in-zone : legal l ≡ true → 0 < membersOf l zone → (c : ℕ) → Foremost a (markOf note) (lowestOf l zone) (lowestOf l zone + membersOf l zone) c → Both (placedOn a (markOf note) c)
+  pub in-zone : legal l ≡ true → 0 < membersOf l zone → (c : ℕ) → Chosen a l zone note c → Promised (placedOn a (markOf note) c)
   unfolding allocationOf
   in-zone h n c f =
-      let e : lowestOf l zone + suc (membersOf l zone - 1) ≡ lowestOf l zone + membersOf l zone = omega arith in
-      let g = rw e at (choice-foremost a (markOf note) (lowestOf l zone) (membersOf l zone - 1)) in
+      let m : lowestOf l zone + suc (membersOf l zone - 1) ≡ lowestOf l zone + membersOf l zone = omega arith in
+      let g = rw m at (choice-foremost a (markOf note) (lowestOf l zone) (membersOf l zone - 1)) in
       let d : c ≡ choice a (markOf note) (lowestOf l zone) (membersOf l zone - 1) = only-one a (markOf note) (lowestOf l zone) (lowestOf l zone + membersOf l zone) c _ f g in
-      (placed h f, rw (h, ne-eqb (membersOf l zone) 0 (λ e. omega arith), ← d))
+      let e : placedOn a (markOf note) c ≡ allocationOf a l zone note = rw (h, ne-eqb (membersOf l zone) 0 (λ z. omega arith), ← d) in
+      let member = the-channel _ c (chosen-is-member a l zone note c h f) in
+      let one = the-channel _ c (one-chosen a l zone note c f) in
+      let recall = the-channel _ c (recall-chosen a l zone note c f) in
+      let least = the-channel _ c (least-chosen a l zone note c f) in
+      (placed h f, (e, (listed (placedOn a (markOf note) c) e, (member, (one, (recall, least))))))
 
-  pub in-channels : (first n : ℕ) (r : Allocation) → legal l ≡ true → 0 < membersOf l zone → first ≡ lowestOf l zone → n ≡ membersOf l zone → Placed a (markOf note) first (first + n) r → Both r
+  pub in-channels : (first n : ℕ) (r : Allocation) → legal l ≡ true → 0 < membersOf l zone → first ≡ lowestOf l zone → n ≡ membersOf l zone → Placed a (markOf note) first (first + n) r → Promised r
   in-channels first n r h m p q d =
-      rw (d .is)
+      subst Promised (sym (d .is))
       (in-zone h m (d .channel) (moved a (markOf note) first n (lowestOf l zone) (membersOf l zone) (d .channel) p q (d .foremost)))

@@ -6,20 +6,23 @@ use mathlib.Core.Logic.{_⊎_, inl, inr, ⊎-elim}
 use Prim.Native.Nat.{ℕ, _+_, _-_, _<_, _≤_}
 use native.Mathlib.Omega.{arith}
 use borrow.Author.Tests.{leb-true}
-use Rattle.mpe_layout.specs.Layout.{lowestOf}
+use Rattle.mpe_layout.specs.Layout.{legal, lowestOf}
+use Rattle.mpe_layout.specs.declared.MpeZone.{MpeZone}
+use Rattle.mpe_layout.specs.declared.MpeLayout.{MpeLayout}
 use Rattle.mpe_layout.proofs.Roles.{member-role}
-use Rattle.mpe_allocator.specs.Choice.{heldOn, releasedOn, markOf, tieFirst, smallerFirst, latestFirst, idlestFirst, byRecall, goesFirst}
+use Rattle.mpe_allocator.specs.declared.MpeNoteAllocator.{MpeNoteAllocator}
+use Rattle.mpe_allocator.specs.Choice.{heldOn, releasedOn, markOf, Chosen, tieFirst, smallerFirst, latestFirst, idlestFirst, byRecall, goesFirst}
 use Rattle.mpe_allocator.specs.Claims.{ChosenIsMember, OneChosen, RecallChosen, LeastChosen}
 use Rattle.mpe_allocator.proofs.Order.{never, view}
 use Rattle.mpe_allocator.proofs.Search.{only-one}
 
-pub chosen-is-member : ChosenIsMember
+pub chosen-is-member : (a : MpeNoteAllocator) (l : MpeLayout) (zone : MpeZone) (note c : ℕ) → legal l ≡ true → Chosen a l zone note c → ChosenIsMember l zone c
 chosen-is-member a l zone note c h f =
     let e : lowestOf l zone + (c - lowestOf l zone) ≡ c = omega (arith, f .from) in
     rw e at (member-role l zone (c - lowestOf l zone) h (omega (arith, f .from, f .below)))
 
-pub one-chosen : OneChosen
-one-chosen a l zone note c d f g = only-one a (markOf note) _ _ c d f g
+pub one-chosen : (a : MpeNoteAllocator) (l : MpeLayout) (zone : MpeZone) (note c : ℕ) → Chosen a l zone note c → OneChosen a l zone note c
+one-chosen a l zone note c f d g = only-one a (markOf note) _ _ c d f g
 
 tie-le : (c b : ℕ) → tieFirst c b ≡ true → c ≤ b
 unfolding tieFirst
@@ -42,15 +45,15 @@ none-recalls true q f i h e = never e
 none-recalls false true f i h e = never (sym h)
 none-recalls false false f i h e = h
 
-pub recall-chosen : RecallChosen
+pub recall-chosen : (a : MpeNoteAllocator) (l : MpeLayout) (zone : MpeZone) (note c : ℕ) → Chosen a l zone note c → RecallChosen a l zone note c
 unfolding goesFirst latestFirst
-recall-chosen a l zone note c b f m h =
+recall-chosen a l zone note c f b m h =
     let r = both-recall _ _ _ _ (f .before b (m .0) (m .1)) h in
     (r .0, tied (releasedOn a b) (releasedOn a c) c b (r .1))
 
-pub least-chosen : LeastChosen
+pub least-chosen : (a : MpeNoteAllocator) (l : MpeLayout) (zone : MpeZone) (note c : ℕ) → Chosen a l zone note c → LeastChosen a l zone note c
 unfolding goesFirst idlestFirst
-least-chosen a l zone note c b f m h =
+least-chosen a l zone note c f b m h =
     let i = none-recalls _ _ _ _ (f .before b (m .0) (m .1)) h in
     ⊎-elim
     (λ (x : heldOn a c < heldOn a b). inl x)

@@ -1,4 +1,4 @@
--- Lists of calls on one allocator, and what its counts sum to (document 01, "The sending side").
+-- Lists of calls on one allocator: what each answers and leaves, and what the counts sum to (document 01, "The sending side").
 use mathlib.Core.Path.{_≡_}
 use mathlib.Core.Bool.{Bool, false, _||_}
 use mathlib.Core.List.{List, [], _∷_}
@@ -23,14 +23,33 @@ pub data AllocatorCall : Type 0 where
   set-same-note : Bool → AllocatorCall
   reset : AllocatorCall
 
--- the allocator afterCalls a call, as each contract says
-unfoldable pub afterCall : MpeNoteAllocator → AllocatorCall → MpeNoteAllocator
+-- what a call answers: the reply to a note, a count, the option, or nothing beside the allocator
+pub data AllocatorAnswer : Type 0 where
+  note-reply : NoteReply → AllocatorAnswer
+  count : ℕ → AllocatorAnswer
+  option : Bool → AllocatorAnswer
+  nothing : AllocatorAnswer
+
+abbrev pub answerOf : MpeNoteAllocator → AllocatorCall → AllocatorAnswer
+answerOf a (note-on l zone note) = note-reply (allocationOf a l zone note .reply)
+answerOf a (note-off channel) = nothing
+answerOf a (active-notes channel) = count (heldOn a (packetValue channel))
+answerOf a same-note = option (a .«same_note»)
+answerOf a (set-same-note on) = nothing
+answerOf a reset = nothing
+
+-- the allocator after a call
+abbrev pub afterCall : MpeNoteAllocator → AllocatorCall → MpeNoteAllocator
 afterCall a (note-on l zone note) = allocationOf a l zone note .allocator
 afterCall a (note-off channel) = withoutNote a (packetValue channel)
 afterCall a (active-notes channel) = a
 afterCall a same-note = a
 afterCall a (set-same-note on) = withOption a on
 afterCall a reset = emptied (a .«same_note»)
+
+-- a call gives this answer and leaves this allocator: what the contract of each call says
+abbrev pub CallGives : MpeNoteAllocator → AllocatorCall → AllocatorAnswer → MpeNoteAllocator → Type 0
+CallGives a call answer left = (answer ≡ answerOf a call) × (left ≡ afterCall a call)
 
 unfoldable pub afterCalls : MpeNoteAllocator → List AllocatorCall → MpeNoteAllocator
 afterCalls a [] = a
@@ -64,7 +83,7 @@ got NoMembers = 0
 abbrev pub met : ℕ → ℕ
 met held = if eqb held 0 then 0 else 1
 
--- a tally afterCalls a call on allocator a
+-- a tally after a call on allocator a
 unfoldable pub tallied : MpeNoteAllocator → Tally → AllocatorCall → Tally
 tallied a t (note-on l zone note) =
     record {
@@ -83,9 +102,9 @@ unfoldable pub tally : MpeNoteAllocator → Tally → List AllocatorCall → Tal
 tally a t [] = t
 tally a t (call ∷ calls) = tally (afterCall a call) (tallied a t call) calls
 
--- afterCalls any calls on a new allocator, the counts sum to the note-ons less the note-offs, while none has reached 255
-abbrev pub CountsSum : Type 0
-CountsSum =
+-- after any calls on a new allocator, the counts sum to the note-ons less the note-offs, while none has reached 255
+abbrev pub CountsSum : MpeNoteAllocator → Type 0
+CountsSum new =
     (calls : List AllocatorCall) →
-    tally (emptied false) noTally calls .reached ≡ false →
-    sum (afterCalls (emptied false) calls .active) + tally (emptied false) noTally calls .offs ≡ tally (emptied false) noTally calls .ons
+    tally new noTally calls .reached ≡ false →
+    sum (afterCalls new calls .active) + tally new noTally calls .offs ≡ tally new noTally calls .ons

@@ -5,6 +5,8 @@ ghost use Prim.Native.Nat.{_+_, _<_, _≤_};
 ghost use Rattle.ump.specs.Packet.{packetValue};
 ghost use Rattle.mpe_allocator.specs.Choice.{heldOn, tieFirst, smallerFirst, recalls, recallsOn, latestFirst, idlestFirst, byRecall, goesFirst, foremostOf, Foremost};
 ghost use Rattle.mpe_allocator.specs.Allocator.{emptied, noteReplyRead, oneMore, withNote, Placed, AllocatedAs, allocationOf, tick, withoutNote, withOption};
+ghost use Rattle.mpe_allocator.specs.Calls.{note-on, note-off, active-notes, same-note, set-same-note, reset, note-reply, count, option, nothing, CallGives, CountsSum};
+ghost use Rattle.mpe_allocator.specs.Claims.{OfChannel, ChosenIsMember, OneChosen, RecallChosen, LeastChosen};
 use mpe_layout::LowestMember;
 use mpe_layout::Members;
 use mpe_layout::MpeLayout;
@@ -99,7 +101,8 @@ fn ticked(clock: u32) -> u32
 impl MpeNoteAllocator {
     // No held note, and the same-note option off.
     pub fn new() -> MpeNoteAllocator
-        ensures { λ r. ⌜ r ≡ emptied false ⌝ }
+        ensures is { λ r. ⌜ r ≡ emptied false ⌝ }
+        ensures counts { λ r. ⌜ CountsSum r ⌝ }
     {
         emptied(false)
     }
@@ -196,6 +199,11 @@ impl MpeNoteAllocator {
     pub fn note_on(self, layout: MpeLayout, zone: MpeZone, note: u8) -> Allocation
         ensures chosen { λ r. ⌜ AllocatedAs self layout zone note (noteReplyRead (r .reply)) (r .allocator) ⌝ }
         ensures is { λ r. ⌜ r ≡ allocationOf self layout zone note ⌝ }
+        ensures listed { λ r. ⌜ CallGives self (note-on layout zone note) (note-reply (r .reply)) (r .allocator) ⌝ }
+        ensures member { λ r. ⌜ OfChannel (r .reply) (ChosenIsMember layout zone) ⌝ }
+        ensures one { λ r. ⌜ OfChannel (r .reply) (OneChosen self layout zone note) ⌝ }
+        ensures recall { λ r. ⌜ OfChannel (r .reply) (RecallChosen self layout zone note) ⌝ }
+        ensures least { λ r. ⌜ OfChannel (r .reply) (LeastChosen self layout zone note) ⌝ }
     {
         match layout.lowest_member(zone) {
             LowestMember::OutOfRange => Allocation {
@@ -221,7 +229,8 @@ impl MpeNoteAllocator {
 
     // A note on `channel` ended. A channel without a held note changes nothing.
     pub fn note_off(self, channel: u8) -> MpeNoteAllocator
-        ensures { λ r. ⌜ r ≡ withoutNote self (packetValue channel) ⌝ }
+        ensures is { λ r. ⌜ r ≡ withoutNote self (packetValue channel) ⌝ }
+        ensures listed { λ r. ⌜ CallGives self (note-off channel) nothing r ⌝ }
     {
         let c = (channel % 16) as usize;
         let held = self.active[c];
@@ -238,7 +247,8 @@ impl MpeNoteAllocator {
 
     // The count of held notes on `channel`.
     pub fn active_notes(self, channel: u8) -> u8
-        ensures { λ r. ⌜ r ≡ heldOn self (packetValue channel) ⌝ }
+        ensures is { λ r. ⌜ r ≡ heldOn self (packetValue channel) ⌝ }
+        ensures listed { λ r. ⌜ CallGives self (active-notes channel) (count r) self ⌝ }
     {
         let c = (channel % 16) as usize;
         self.active[c]
@@ -246,14 +256,16 @@ impl MpeNoteAllocator {
 
     // The same-note option of A.3.
     pub fn same_note(self) -> bool
-        ensures { λ r. ⌜ r ≡ self .«same_note» ⌝ }
+        ensures is { λ r. ⌜ r ≡ self .«same_note» ⌝ }
+        ensures listed { λ r. ⌜ CallGives self same-note (option r) self ⌝ }
     {
         self.same_note
     }
 
     // The same-note option on or off.
     pub fn set_same_note(self, on: bool) -> MpeNoteAllocator
-        ensures { λ r. ⌜ r ≡ withOption self on ⌝ }
+        ensures is { λ r. ⌜ r ≡ withOption self on ⌝ }
+        ensures listed { λ r. ⌜ CallGives self (set-same-note on) nothing r ⌝ }
     {
         let mut a = self;
         a.same_note = on;
@@ -262,7 +274,8 @@ impl MpeNoteAllocator {
 
     // No held note and no release; the same-note option stays.
     pub fn reset(self) -> MpeNoteAllocator
-        ensures { λ r. ⌜ r ≡ emptied (self .«same_note») ⌝ }
+        ensures is { λ r. ⌜ r ≡ emptied (self .«same_note») ⌝ }
+        ensures listed { λ r. ⌜ CallGives self reset nothing r ⌝ }
     {
         emptied(self.same_note)
     }

@@ -45,7 +45,7 @@ unfolding notedAll
 returns c =
     let at = c .before .loop in
     let l = c .before .before .before .before .args .notes .now in
-    sym (ap (λ r. notedAll (at .n) r .sum) (drop-of-length-le l {i = at .i} (omega arith))) ∙ ap (λ n. n .sum) (at .inv .1) ∙ rw (c .before .before .new .ensures) refl
+    sym (ap (λ r. notedAll (at .n) r .sum) (drop-of-length-le l {i = at .i} (omega arith))) ∙ ap (λ n. n .sum) (at .inv .1) ∙ rw (c .before .before .new .ensures .0) refl
 
 pub gurfemau-notes-spec : {M : Type 1} → statement M
 gurfemau-notes-spec =

@@ -22,7 +22,7 @@ wrapping-add-u64-requires c κs = search needs
 returns : tie.Need-returns
 unfolding noted
 returns c =
-    let on = c .before .before .before .note-on .ensures .1 in
+    let on = c .before .before .before .note-on .ensures .1 .0 in
     let got = c .before .channel-in .ensures in
     let sum = c .wrapping-add-u64 .ensures in
     rw (lt-ltb _ _ (c .before .before .before .before .if1 .taken)) cc
@@ -32,7 +32,7 @@ note-off-requires c κs = search needs
 
 returns-2 : tie.Need-returns-2
 unfolding noted
-returns-2 c = search (auto, c .note-off .ensures)
+returns-2 c = search (auto, c .note-off .ensures .0)
 
 pub note-spec : {M : Type 1} → statement M
 note-spec =

@@ -1,5 +1,6 @@
 -- `mpe_allocator::MpeNoteAllocator::note_off` meets its contract: the definition at its test.
 -- Assumes nothing.
+use mathlib.Core.Path.{refl}
 use borrow.Author.Needs.{needs}
 use Rattle.mpe_allocator.proofs.MpeNoteAllocator.note_off.Statement.{statement}
 use Rattle.mpe_allocator.proofs.MpeNoteAllocator.note_off.Tie as tie
@@ -38,7 +39,7 @@ returns-2 : tie.Need-returns-2
 unfolding withoutNote
 returns-2 c =
     let a = c .before .before .before .args in
-    rw (ne-eqb (heldOn (a .t1) (packetValue (a .channel))) 0 (c .before .if1 .left), c .ticked .ensures)
+    rw (ne-eqb (heldOn (a .t1) (packetValue (a .channel))) 0 (c .before .if1 .left), c .ticked .ensures) (refl, (refl, refl))
 
 pub note-off-spec : {M : Type 1} → statement M
 note-off-spec =
