@@ -127,5 +127,5 @@ unfolding readAll
 sound-after r [] s = s
 sound-after r (b ∷ l) s = sound-after (readStep r b .reader) l (step-fine r b s .sound)
 
-pub words-formed : WordsFormed
+pub words-formed : WordsFormed newReader
 words-formed l b w e = step-fine (readAll newReader l) b (sound-after newReader l new-sound) .formed w e

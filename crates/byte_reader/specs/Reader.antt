@@ -77,7 +77,7 @@ pub record Sound (r : Reader) : Type 0 where
   pub status-sound : (r .status ≡ 0) ⊎ ((0x80 ≤ r .status) × (r .status < 0xF0))
   pub first-sound : r .first ≤ 0x80
 
--- every word that a reader makes, whatever bytes it got since it was new, has the form of a message and group 0
-abbrev pub WordsFormed : Type 0
-WordsFormed =
-    (l : List ℕ) (b w : ℕ) → readStep (readAll newReader l) b .read ≡ Message w → (wordForm w ≡ true) × (field 24 4 w ≡ 0)
+-- every word that a new reader makes, whatever bytes it got before, has the form of a message and group 0
+abbrev pub WordsFormed : Reader → Type 0
+WordsFormed new =
+    (l : List ℕ) (b w : ℕ) → readStep (readAll new l) b .read ≡ Message w → (wordForm w ≡ true) × (field 24 4 w ≡ 0)

@@ -2,7 +2,7 @@
 ghost use mathlib.Core.Path.{_≡_};
 ghost use Prim.Native.Nat.{_/_, _%_};
 ghost use Rattle.ump.specs.Word.{wordOf};
-ghost use Rattle.byte_reader.specs.Reader.{newReader, readerAt, reading as readAs, classOfByte, secondData, dataStep, classStep, readStep};
+ghost use Rattle.byte_reader.specs.Reader.{newReader, readerAt, reading as readAs, classOfByte, secondData, dataStep, classStep, readStep, WordsFormed};
 
 // What kind of byte it is (MIDI 1.0, Table I).
 pub enum ByteClass {
@@ -111,7 +111,8 @@ fn data_byte(status: u8, first: u8, b: u8) -> ReadStep
 impl Reader {
     // No running status, no begun message.
     pub fn new() -> Reader
-        ensures { λ r. ⌜ r ≡ newReader ⌝ }
+        ensures is { λ r. ⌜ r ≡ newReader ⌝ }
+        ensures formed { λ r. ⌜ WordsFormed r ⌝ }
     {
         Reader {
             status: 0,
