@@ -1,6 +1,6 @@
 -- Steps stop at the ends, and every new value has 14 bits.
 -- Assumes nothing.
-use Prim.Native.Nat.{ℕ, _-_, _/_, _%_, _^_, _≤_, _<_}
+use Prim.Native.Nat.{ℕ, _-_, _/_, _%_, _^_, _<_}
 use mathlib.Core.Bool.{Bool, true, false}
 use native.Mathlib.Omega.{arith}
 use lib.Dec.{ltb, eqb}
@@ -14,15 +14,13 @@ use Rattle.parameter_event.specs.declared.ParameterChange.{ParameterChan
 use Rattle.parameter_event.specs.declared.ParameterChange.the-variants.{DataEntryMsb, DataEntryLsb, Increment, Decrement}
 use Rattle.parameter_event.specs.declared.ParameterEvent.{ParameterEvent}
 
-pub saturating-le : (top : ℕ) (up : Bool) (v : ℕ) → v ≤ top → saturatingStep top up v ≤ top
-saturating-le top true v h = by-test (ltb v top) (λ e. rw e (omega (arith, ltb-true v top e))) (λ e. rw e h)
-saturating-le top false v h = omega arith
-
-whole-fits : (up : Bool) (v : ℕ) → v < 2 ^ 14 → saturatingStep (2 ^ 14 - 1) up v < 2 ^ 14
-whole-fits up v h = let l = saturating-le (2 ^ 14 - 1) up v (omega arith) in omega arith
+pub saturating-fits : (width : ℕ) (up : Bool) (v : ℕ) → v < 2 ^ width → saturatingStep width up v < 2 ^ width
+saturating-fits width true v h =
+    by-test (ltb v (2 ^ width - 1)) (λ e. rw e (omega (arith, ltb-true v (2 ^ width - 1) e))) (λ e. rw e h)
+saturating-fits width false v h = omega arith
 
 upper-fits : (m l : ℕ) (up : Bool) → m < 2 ^ 7 → l < 2 ^ 7 → stepUpper m l up < 2 ^ 14
-upper-fits m l up hm hl = let s = saturating-le (2 ^ 7 - 1) up m (omega arith) in omega arith
+upper-fits m l up hm hl = let s = saturating-fits 7 up m hm in omega arith
 
 cents-fit : (s c : ℕ) (up : Bool) → s < 2 ^ 7 → c < 2 ^ 7 → stepCents s c up < 2 ^ 14
 unfolding stepCents
@@ -38,23 +36,23 @@ cents-fit s c false hs hc =
 numbered-fits : (m l : ℕ) (up : Bool) (v : ℕ) → v < 2 ^ 14 → stepNumbered m l up v < 2 ^ 14
 unfolding stepNumbered
 numbered-fits m l up v h =
-    let w = whole-fits up v h in
+    let w = saturating-fits 14 up v h in
     by-test (eqb m 0)
     (λ e. rw e
     (by-test (eqb l 0)
-    (λ f. rw f (cents-fit (v / 128) (v % 128) up (omega arith) (omega arith)))
+    (λ f. rw f (cents-fit (v / 2 ^ 7) (v % 2 ^ 7) up (omega arith) (omega arith)))
     (λ f. rw f
     (by-test (ltb l 2)
     (λ g. rw g w)
     (λ g. rw g
     (by-test (ltb 4 l)
     (λ k. rw k w)
-    (λ k. rw k (upper-fits (v / 128) (v % 128) up (omega arith) (omega arith)))))))))
+    (λ k. rw k (upper-fits (v / 2 ^ 7) (v % 2 ^ 7) up (omega arith) (omega arith)))))))))
     (λ e. rw e w)
 
 parameter-fits : (p : Parameter) (up : Bool) (v : ℕ) → v < 2 ^ 14 → stepParameter p up v < 2 ^ 14
 parameter-fits (Registered r) up v h = numbered-fits (rpnParts r .msb) (rpnParts r .lsb) up v h
-parameter-fits (NonRegistered m l) up v h = whole-fits up v h
+parameter-fits (NonRegistered m l) up v h = saturating-fits 14 up v h
 
 changed-fits : (p : Parameter) (change : ParameterChange) (v : ℕ) → v < 2 ^ 14 → changedBy p change v < 2 ^ 14
 changed-fits p (DataEntryMsb d) v h = omega arith

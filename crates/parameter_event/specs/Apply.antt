@@ -10,44 +10,44 @@ use Rattle.parameter_event.specs.declared.ParameterChange.{ParameterChan
 use Rattle.parameter_event.specs.declared.ParameterChange.the-variants.{DataEntryMsb, DataEntryLsb, Increment, Decrement}
 use Rattle.parameter_event.specs.declared.ParameterEvent.{ParameterEvent}
 
--- one step of a value that is at most top, stopping at the ends
+-- one step of a field of this width, stopping at the ends
 abbrev pub saturatingStep : ℕ → Bool → ℕ → ℕ
-saturatingStep top true v = if ltb v top then v + 1 else v
-saturatingStep top false v = v - 1
+saturatingStep width true v = if ltb v (2 ^ width - 1) then v + 1 else v
+saturatingStep width false v = v - 1
 
 -- RPN 0 (RP-018): cents, and from cents 99 or more up to the next semitone; unchanged at semitone 127, and down from 0/0
 unfoldable pub stepCents : ℕ → ℕ → Bool → ℕ
 stepCents semitones cents true =
-    if ltb cents 99 then semitones * 128 + cents + 1 else
-    if ltb semitones 127 then (semitones + 1) * 128 else
-    semitones * 128 + cents
+    if ltb cents 99 then semitones * 2 ^ 7 + cents + 1 else
+    if ltb semitones 127 then (semitones + 1) * 2 ^ 7 else
+    semitones * 2 ^ 7 + cents
 stepCents semitones cents false =
-    if ltb 0 cents then semitones * 128 + cents - 1 else
-    if ltb 0 semitones then (semitones - 1) * 128 + 99 else
-    semitones * 128 + cents
+    if ltb 0 cents then semitones * 2 ^ 7 + cents - 1 else
+    if ltb 0 semitones then (semitones - 1) * 2 ^ 7 + 99 else
+    semitones * 2 ^ 7 + cents
 
 -- RPN 2, 3 and 4 (RP-018): the upper half
 abbrev pub stepUpper : ℕ → ℕ → Bool → ℕ
-stepUpper msb lsb up = saturatingStep (2 ^ 7 - 1) up msb * 128 + lsb
+stepUpper msb lsb up = saturatingStep 7 up msb * 2 ^ 7 + lsb
 
 -- by the number of a registered parameter
 unfoldable pub stepNumbered : ℕ → ℕ → Bool → ℕ → ℕ
 stepNumbered m l up v =
     if eqb m 0 then
-    (if eqb l 0 then stepCents (v / 128) (v % 128) up else
-    if ltb l 2 then saturatingStep (2 ^ 14 - 1) up v else
-    if ltb 4 l then saturatingStep (2 ^ 14 - 1) up v else
-    stepUpper (v / 128) (v % 128) up)
-    else saturatingStep (2 ^ 14 - 1) up v
+    (if eqb l 0 then stepCents (v / 2 ^ 7) (v % 2 ^ 7) up else
+    if ltb l 2 then saturatingStep 14 up v else
+    if ltb 4 l then saturatingStep 14 up v else
+    stepUpper (v / 2 ^ 7) (v % 2 ^ 7) up)
+    else saturatingStep 14 up v
 
 abbrev pub stepParameter : Parameter → Bool → ℕ → ℕ
 stepParameter (Registered rpn) up v = stepNumbered (rpnParts rpn .msb) (rpnParts rpn .lsb) up v
-stepParameter (NonRegistered m l) up v = saturatingStep (2 ^ 14 - 1) up v
+stepParameter (NonRegistered m l) up v = saturatingStep 14 up v
 
 -- controller 6 sets the upper seven bits and clears the lower; 38 sets the lower; 96 and 97 step
 abbrev pub changedBy : Parameter → ParameterChange → ℕ → ℕ
-changedBy p (DataEntryMsb d) v = d % 128 * 128
-changedBy p (DataEntryLsb d) v = v / 128 * 128 + d % 128
+changedBy p (DataEntryMsb d) v = d % 2 ^ 7 * 2 ^ 7
+changedBy p (DataEntryLsb d) v = v / 2 ^ 7 * 2 ^ 7 + d % 2 ^ 7
 changedBy p Increment v = stepParameter p true v
 changedBy p Decrement v = stepParameter p false v
 

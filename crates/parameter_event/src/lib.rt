@@ -1,6 +1,6 @@
 // A change of a parameter, and the value after it (parameters.rs).
 ghost use mathlib.Core.Path.{_≡_};
-ghost use Prim.Native.Nat.{_<_, _^_, _-_};
+ghost use Prim.Native.Nat.{ℕ, _<_, _^_, _-_};
 ghost use Rattle.parameter_event.specs.Apply.{saturatingStep, stepCents, stepUpper, stepNumbered, stepParameter, applied};
 use ump::controller::Rpn;
 
@@ -28,9 +28,9 @@ pub struct ParameterEvent {
     pub change: ParameterChange,
 }
 
-// One step up or down that stops at 0 and at `top`.
+// One step up or down of a field of any width, which stops at 0 and at `top`, its highest value.
 fn saturating_step(value: u16, top: u16, up: bool) -> u16
-    ensures { λ r. ⌜ r ≡ saturatingStep top up value ⌝ }
+    ensures { λ r. ⌜ ((width : ℕ) → top ≡ 2 ^ width - 1 → r ≡ saturatingStep width up value) ⌝ }
 {
     if up {
         if value < top {
@@ -77,7 +77,7 @@ fn step_upper(msb: u16, lsb: u16, up: bool) -> u16
 
 // One step of the 14-bit value.
 fn step14(value: u16, up: bool) -> u16
-    ensures { λ r. ⌜ r ≡ saturatingStep (2 ^ 14 - 1) up value ⌝ }
+    ensures { λ r. ⌜ r ≡ saturatingStep 14 up value ⌝ }
 {
     saturating_step(value, 0x3FFF, up)
 }
