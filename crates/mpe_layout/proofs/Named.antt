@@ -2,15 +2,13 @@
 -- Assumes nothing.
 use mathlib.Core.Path.{_≡_, refl}
 use mathlib.Core.Bool.{Bool, true, false}
-use Prim.Native.Nat.{ℕ, _<_}
-use native.Mathlib.Nat.{mod-lt, mod-eq-of-lt}
+use Prim.Native.Nat.{ℕ}
+use native.Mathlib.Nat.{mod-lt}
 use lib.Dec.{eqb, lit<}
 use Rattle.ump.specs.Packet.{packetValue}
 use Rattle.ump.specs.Field.{bitFor, maskTo}
 use Rattle.ump.proofs.Mask.{mask-bit}
-use Rattle.mpe_layout.specs.Reset.{announcementHit, layoutHit, announcementMask, layoutMask, named}
-use Rattle.mpe_layout.specs.declared.MpeZone.{MpeZone}
-use Rattle.mpe_layout.specs.declared.MpeLayout.{MpeLayout}
+use Rattle.mpe_layout.specs.Reset.{named}
 
 bit-one : (b : Bool) → eqb (bitFor b) 1 ≡ b
 bit-one true = refl
@@ -19,9 +17,3 @@ bit-one false = refl
 -- a mask of sixteen conditions names the channels for which they hold
 pub mask-named : (f : ℕ → Bool) (channel : ℕ) → named (maskTo f 16) channel ≡ f (packetValue channel)
 mask-named f channel = rw (mask-bit f 16 (packetValue channel) (mod-lt channel (lit< tt))) (bit-one (f (packetValue channel)))
-
-pub announcement-named : (before after : MpeLayout) (zone : MpeZone) (channel : ℕ) → channel < 16 → named (announcementMask before after zone) channel ≡ announcementHit before after zone channel
-announcement-named before after zone channel h = rw (mask-named (announcementHit before after zone), mod-eq-of-lt h)
-
-pub layout-named : (before after : MpeLayout) (channel : ℕ) → channel < 16 → named (layoutMask before after) channel ≡ layoutHit before after channel
-layout-named before after channel h = rw (mask-named (layoutHit before after), mod-eq-of-lt h)

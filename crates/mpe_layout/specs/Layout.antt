@@ -4,6 +4,7 @@ use mathlib.Core.Bool.{Bool, true, false, _||_}
 use lib.Dec.{ltb, leb, eqb}
 use Rattle.ump.specs.Choice.{if_then_else_}
 use Rattle.ump.specs.Outcome.{Outcome, given, outOfRange, noneThere}
+use Rattle.ump.specs.Packet.{packetValue}
 use Rattle.mpe_layout.specs.declared.MpeZone.{MpeZone}
 use Rattle.mpe_layout.specs.declared.MpeZone.the-variants.{Lower, Upper}
 use Rattle.mpe_layout.specs.declared.MpeRole.{MpeRole}
@@ -24,6 +25,14 @@ use Rattle.mpe_layout.specs.declared.LowestMember.the-variants as lowest
 
 abbrev pub layoutOf : ℕ → ℕ → MpeLayout
 layoutOf lower upper = record { lower = lower; upper = upper }
+
+-- the layout of a new receiver: no zone is active (M1-100 2.2.1)
+abbrev pub noZones : MpeLayout
+noZones = layoutOf 0 0
+
+-- one zone of all sixteen channels: Lower with 15 members (M1-100 2.2.2)
+abbrev pub defaultLayout : MpeLayout
+defaultLayout = layoutOf 15 0
 
 -- a zone has 0 to 15 members, and two active zones have at most 14 in all, so that no channel is in both (M1-100 2.2.1)
 unfoldable pub legalCounts : ℕ → ℕ → Bool
@@ -97,6 +106,16 @@ layoutFor Upper members other = layoutOf other members
 unfoldable pub withMcm : MpeLayout → MpeZone → ℕ → MpeLayout
 withMcm l zone members =
     if ltb 15 members then l else layoutFor zone members (leftBeside members (membersOf l (otherZone zone)))
+
+-- what `new`, `with_mcm` and `role` give or decline (document 01, "Layout and pitch"); a channel is taken modulo 16
+abbrev pub newLayout : ℕ → ℕ → Outcome MpeLayout
+newLayout lower upper = ofLegal (layoutOf lower upper) (given (layoutOf lower upper))
+
+abbrev pub mcmLayout : MpeLayout → MpeZone → ℕ → Outcome MpeLayout
+mcmLayout l zone members = ofLegal l (given (withMcm l zone members))
+
+abbrev pub roleGiven : MpeLayout → ℕ → Outcome MpeRole
+roleGiven l channel = ofLegal l (given (roleOf l (packetValue channel)))
 
 -- what each answer gives or declines
 abbrev pub layoutMade : MadeLayout → Outcome MpeLayout

@@ -1,8 +1,9 @@
 -- The channels that a change of layout resets (M1-100 2.2.3; document 01, "The receiver").
 use Prim.Native.Nat.{ℕ, _-_}
+use mathlib.Core.Path.{_≡_}
 use mathlib.Core.Bool.{Bool, true, false, not, _||_}
 use lib.Dec.{eqb}
-use Rattle.ump.specs.Outcome.{Outcome, given, outOfRange}
+use Rattle.ump.specs.Outcome.{Outcome, given, declined, outOfRange}
 use Rattle.ump.specs.Packet.{packetValue}
 use Rattle.ump.specs.Field.{field, maskTo}
 use Rattle.mpe_layout.specs.Layout.{placeOf, roleOf}
@@ -89,7 +90,18 @@ inUpper members channel = inside (placeOf members (15 - channel))
 abbrev pub named : ℕ → ℕ → Bool
 named mask channel = eqb (field (packetValue channel) 1 mask) 1
 
+-- of a mask that a change of layout gives, a channel is named exactly where the change resets it
+abbrev pub NamesHit : ℕ → ℕ → Bool → Type 0
+NamesHit mask channel answer =
+    (change : Change) (before after : MpeLayout) →
+    mask ≡ maskTo (hitBy change before after) 16 → answer ≡ hitBy change before after (packetValue channel)
+
 -- what an answer gives or declines
 abbrev pub maskFound : ResetMask → Outcome ℕ
 maskFound (Mask m) = given m
 maskFound OutOfRange = outOfRange
+
+-- the channels of a mask, or none
+abbrev pub maskOrZero : Outcome ℕ → ℕ
+maskOrZero (given m) = m
+maskOrZero (declined n v) = 0

@@ -3,11 +3,10 @@ ghost use mathlib.Core.Path.{_≡_};
 ghost use mathlib.Core.Bool.{true};
 ghost use Prim.Native.Nat.{_<_};
 ghost use Rattle.ump.specs.Outcome.{given};
-ghost use Rattle.ump.specs.Packet.{packetValue};
 ghost use Rattle.ump.specs.Field.{maskTo};
-ghost use Rattle.mpe_layout.specs.Layout.{legalCounts, legal, ofLegal, layoutOf, membersOf, otherZone, managerOf, active, placeOf, roleAt, roleOf, lowestOrNone, leftBeside, layoutFor, withMcm, layoutMade, membersFound, roleFound, activityFound, lowestFound};
+ghost use Rattle.mpe_layout.specs.Layout.{legalCounts, noZones, defaultLayout, legal, ofLegal, membersOf, otherZone, managerOf, active, placeOf, roleAt, roleOf, lowestOrNone, leftBeside, layoutFor, withMcm, newLayout, mcmLayout, roleGiven, layoutMade, membersFound, roleFound, activityFound, lowestFound};
 ghost use Rattle.mpe_layout.specs.declared.ZonePlace.the-variants.{Outside};
-ghost use Rattle.mpe_layout.specs.Reset.{inLower, inUpper, announcementMask, layoutMask, hitBy, named, maskFound};
+ghost use Rattle.mpe_layout.specs.Reset.{inLower, inUpper, announcementMask, layoutMask, hitBy, named, NamesHit, maskFound, maskOrZero};
 
 // One of the two zones (M1-100 2.2.1).
 pub enum MpeZone {
@@ -189,9 +188,23 @@ impl MpeLayout {
         upper: 0,
     };
 
+    // `NONE` by a call.
+    pub fn no_zones() -> MpeLayout
+        ensures { λ r. ⌜ r ≡ noZones ⌝ }
+    {
+        MpeLayout::NONE
+    }
+
+    // `DEFAULT` by a call.
+    pub fn default_layout() -> MpeLayout
+        ensures { λ r. ⌜ r ≡ defaultLayout ⌝ }
+    {
+        MpeLayout::DEFAULT
+    }
+
     // A layout with these member counts.
     pub fn new(lower: u8, upper: u8) -> MadeLayout
-        ensures { λ r. ⌜ layoutMade r ≡ ofLegal (layoutOf lower upper) (given (layoutOf lower upper)) ⌝ }
+        ensures { λ r. ⌜ layoutMade r ≡ newLayout lower upper ⌝ }
     {
         if is_legal(lower, upper) {
             return MadeLayout::Made(MpeLayout { lower, upper });
@@ -240,7 +253,7 @@ impl MpeLayout {
 
     // The layout after an MPE Configuration Message.
     pub fn with_mcm(self, zone: MpeZone, members: u8) -> MadeLayout
-        ensures { λ r. ⌜ layoutMade r ≡ ofLegal self (given (withMcm self zone members)) ⌝ }
+        ensures { λ r. ⌜ layoutMade r ≡ mcmLayout self zone members ⌝ }
     {
         if self.is_layout() {
             return MadeLayout::Made(self.announced(zone, members));
@@ -262,7 +275,7 @@ impl MpeLayout {
 
     // The role of a channel.
     pub fn role(self, channel: u8) -> FoundRole
-        ensures { λ r. ⌜ roleFound r ≡ ofLegal self (given (roleOf self (packetValue channel))) ⌝ }
+        ensures { λ r. ⌜ roleFound r ≡ roleGiven self channel ⌝ }
     {
         if self.is_layout() {
             return FoundRole::Role(self.role_in(channel % 16));
@@ -385,7 +398,18 @@ pub fn layout_reset(before: MpeLayout, after: MpeLayout) -> ResetMask
 
 // The mask names the channel.
 pub fn names(mask: u16, channel: u8) -> bool
-    ensures { λ r. ⌜ r ≡ named mask channel ⌝ }
+    ensures is { λ r. ⌜ r ≡ named mask channel ⌝ }
+    ensures hit { λ r. ⌜ NamesHit mask channel r ⌝ }
 {
     ((mask >> (channel % 16)) & 1) == 1
+}
+
+// The channels of a mask, or none.
+pub fn mask_or_zero(found: ResetMask) -> u16
+    ensures { λ r. ⌜ r ≡ maskOrZero (maskFound found) ⌝ }
+{
+    match found {
+        ResetMask::Mask(m) => m,
+        ResetMask::OutOfRange => 0,
+    }
 }
