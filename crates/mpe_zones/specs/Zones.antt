@@ -6,14 +6,13 @@ use lib.ListN.{getD, set}
 use lib.Dec.{ltb, eqb}
 use Rattle.ump.specs.Choice.{if_then_else_}
 use Rattle.ump.specs.Outcome.{Outcome, given, declined}
-use Rattle.ump.specs.Packet.{packetValue}
 use Rattle.mpe_layout.specs.declared.MpeZone.{MpeZone}
 use Rattle.mpe_layout.specs.declared.MpeZone.the-variants.{Lower, Upper}
 use Rattle.mpe_layout.specs.declared.MpeRole.{MpeRole}
 use Rattle.mpe_layout.specs.declared.MpeRole.the-variants.{NoZone}
 use Rattle.mpe_layout.specs.declared.MpeLayout.{MpeLayout}
-use Rattle.mpe_layout.specs.Layout.{legal, ofLegal, roleOf, withMcm}
-use Rattle.mpe_layout.specs.Reset.{announcementMask, layoutMask}
+use Rattle.mpe_layout.specs.Layout.{legal, ofLegal, roleGiven, mcmLayout}
+use Rattle.mpe_layout.specs.Reset.{announcementMask, layoutMask, maskOrZero}
 use Rattle.mpe_pitch.specs.declared.MpeSensitivity.{MpeSensitivity}
 use Rattle.mpe_pitch.specs.Pitch.{managerDefault, memberDefault}
 use Rattle.mpe_zones.specs.declared.Zones.{Zones}
@@ -78,28 +77,24 @@ roleIn (given r) = r
 roleIn (declined n v) = NoZone
 
 abbrev pub roleHeld : MpeLayout → ℕ → MpeRole
-roleHeld l channel = roleIn (ofLegal l (given (roleOf l (packetValue channel))))
+roleHeld l channel = roleIn (roleGiven l channel)
 
 abbrev pub layoutIn : MpeLayout → Outcome MpeLayout → MpeLayout
 layoutIn l (given after) = after
 layoutIn l (declined n v) = l
 
 abbrev pub announcedTo : MpeLayout → MpeZone → ℕ → MpeLayout
-announcedTo l zone members = layoutIn l (ofLegal l (given (withMcm l zone members)))
+announcedTo l zone members = layoutIn l (mcmLayout l zone members)
 
 abbrev pub isLowest : Outcome ℕ → ℕ → Bool
 isLowest (given c) channel = eqb channel c
 isLowest (declined n v) channel = false
 
-abbrev pub maskIn : Outcome ℕ → ℕ
-maskIn (given m) = m
-maskIn (declined n v) = 0
-
 abbrev pub announcementResets : MpeLayout → MpeLayout → MpeZone → ℕ
-announcementResets before after zone = maskIn (ofLegal before (ofLegal after (given (announcementMask before after zone))))
+announcementResets before after zone = maskOrZero (ofLegal before (ofLegal after (given (announcementMask before after zone))))
 
 abbrev pub layoutResets : MpeLayout → MpeLayout → ℕ
-layoutResets before after = maskIn (ofLegal before (ofLegal after (given (layoutMask before after))))
+layoutResets before after = maskOrZero (ofLegal before (ofLegal after (given (layoutMask before after))))
 
 -- what `set_layout` answers, and the zones after it: an illegal layout is out of range, and leaves them as they are
 abbrev pub zonesSetReply : Zones → MpeLayout → Outcome ℕ

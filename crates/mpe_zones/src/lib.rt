@@ -4,7 +4,7 @@ ghost use Prim.Native.Nat.{_<_, _*_, _+_};
 ghost use Rattle.mpe_layout.specs.Layout.{layoutMade, roleFound, lowestFound};
 ghost use Rattle.mpe_layout.specs.Reset.{maskFound};
 ghost use Rattle.parameters.specs.declared.MaybeEvent.the-variants.{NoEvent};
-ghost use Rattle.mpe_zones.specs.Zones.{withMono, monoOf, slotOf, sensitivityAt, sensitivityPut, zoneSensitivity, activated, activatedIf, roleIn, roleHeld, layoutIn, maskIn, isLowest, withZonesOf, zonesSetReply, zonesSet};
+ghost use Rattle.mpe_zones.specs.Zones.{withMono, monoOf, slotOf, sensitivityAt, sensitivityPut, zoneSensitivity, activated, activatedIf, roleIn, roleHeld, layoutIn, isLowest, withZonesOf, zonesSetReply, zonesSet};
 ghost use Rattle.mpe_zones.specs.Update.{decodedRpn, decodedParameter, decodedEvent, decoded, zonesUpdate, announced, configuredBy, configured, announcedOn, sensitivityApplied, sensedAs, sensed, sensedEvent, inMode4, modeEvent, otherOnMember, isLowestIn, onMember, plainEvent, modeSet, updatedAs, messageUpdate, mpeReplyRead, zonesReply, zonesAfter, resetIn};
 ghost use Rattle.mpe_zones.specs.Claims.{ReceiverCases};
 use mpe_layout::FoundRole;
@@ -16,6 +16,7 @@ use mpe_layout::MpeZone;
 use mpe_layout::ResetMask;
 use mpe_layout::announcement_reset;
 use mpe_layout::layout_reset;
+use mpe_layout::mask_or_zero;
 use mpe_pitch::MpeSensitivity;
 use parameter_event::Parameter;
 use parameter_event::ParameterChange;
@@ -160,16 +161,6 @@ fn layout_in(layout: MpeLayout, made: MadeLayout) -> MpeLayout
     match made {
         MadeLayout::Made(l) => l,
         MadeLayout::OutOfRange => layout,
-    }
-}
-
-// The channels of a mask, or none.
-fn mask_in(found: ResetMask) -> u16
-    ensures { λ r. ⌜ r ≡ maskIn (maskFound found) ⌝ }
-{
-    match found {
-        ResetMask::Mask(m) => m,
-        ResetMask::OutOfRange => 0,
     }
 }
 
@@ -431,7 +422,7 @@ impl Zones {
         }
         let before = self.layout;
         let after = layout_in(before, before.with_mcm(zone, members));
-        let mask = mask_in(announcement_reset(before, after, zone));
+        let mask = mask_or_zero(announcement_reset(before, after, zone));
         let mut laid = self;
         laid.layout = after;
         let zones = laid.activate_if(members, zone);
@@ -622,7 +613,7 @@ impl Zones {
     {
         if layout.is_layout() {
             let before = self.layout;
-            let mask = mask_in(layout_reset(before, layout));
+            let mask = mask_or_zero(layout_reset(before, layout));
             let zones = self.lay_out(layout);
             return ZonesLayoutSet {
                 zones,

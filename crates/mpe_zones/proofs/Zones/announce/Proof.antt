@@ -5,7 +5,8 @@ use lib.Dec.{ltb}
 use mathlib.Core.Bool.{false}
 use mathlib.Core.Path.{_≡_, ap, _∙_}
 use Rattle.mpe_zones.specs.declared.MpeEvent.the-variants.{Layout}
-use Rattle.mpe_zones.specs.Zones.{withLayout, activatedIf, layoutIn, maskIn, announcementResets}
+use Rattle.mpe_zones.specs.Zones.{withLayout, activatedIf, layoutIn, announcementResets}
+use Rattle.mpe_layout.specs.Reset.{maskOrZero}
 use Rattle.mpe_zones.specs.Update.{zonesUpdate, announced}
 use Rattle.ump.proofs.Auto.{auto}
 use Rattle.mpe_zones.proofs.Zones.announce.Statement.{statement}
@@ -27,8 +28,8 @@ layout-in-requires c κs = search needs
 announcement-reset-requires : tie.Need-announcement-reset-requires
 announcement-reset-requires c κs = search needs
 
-mask-in-requires : tie.Need-mask-in-requires
-mask-in-requires c κs = search needs
+mask-or-zero-requires : tie.Need-mask-or-zero-requires
+mask-or-zero-requires c κs = search needs
 
 activate-if-requires : tie.Need-activate-if-requires
 activate-if-requires c κs = search needs
@@ -39,7 +40,7 @@ returns-2 c =
     let a = c .before .before .before .before .before .before .before .args in
     let z = a .self in
     let small : ltb 15 (a .members) ≡ false = search auto in
-    let mask = c .before .mask-in .ensures ∙ ap maskIn (c .before .before .announcement-reset .ensures) in
+    let mask = c .before .mask-or-zero .ensures ∙ ap maskOrZero (c .before .before .announcement-reset .ensures) in
     let after = c .before .before .before .layout-in .ensures ∙ ap (layoutIn (z .layout)) (c .before .before .before .before .with-mcm .ensures) in
     rw small
     ((λ i. zonesUpdate (c .activate-if .ensures i) (Layout (mask i)))
@@ -54,6 +55,6 @@ announce-spec =
     with-mcm-requires
     layout-in-requires
     announcement-reset-requires
-    mask-in-requires
+    mask-or-zero-requires
     activate-if-requires
     returns-2)

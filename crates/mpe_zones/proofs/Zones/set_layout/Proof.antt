@@ -4,7 +4,7 @@ use borrow.Author.Needs.{needs}
 use mathlib.Core.Path.{ap, sym, _∙_}
 use Rattle.ump.specs.Outcome.{given, outOfRange}
 use Rattle.ump.proofs.Cases.{chosen}
-use Rattle.mpe_zones.specs.Zones.{maskIn}
+use Rattle.mpe_layout.specs.Reset.{maskOrZero}
 use Rattle.mpe_zones.proofs.Zones.set_layout.Statement.{statement}
 use Rattle.mpe_zones.proofs.Zones.set_layout.Tie as tie
 
@@ -14,8 +14,8 @@ is-layout-requires c κs = search needs
 layout-reset-requires : tie.Need-layout-reset-requires
 layout-reset-requires c κs = search needs
 
-mask-in-requires : tie.Need-mask-in-requires
-mask-in-requires c κs = search needs
+mask-or-zero-requires : tie.Need-mask-or-zero-requires
+mask-or-zero-requires c κs = search needs
 
 lay-out-requires : tie.Need-lay-out-requires
 lay-out-requires c κs = search needs
@@ -26,7 +26,7 @@ returns c =
     let b = m .before .before .before in
     let a = b .before .before .args in
     let t = sym (b .before .is-layout .ensures) ∙ b .if1 .taken in (
-      ap given (m .mask-in .ensures ∙ ap maskIn (m .before .layout-reset .ensures)) ∙ sym (chosen _ outOfRange t),
+      ap given (m .mask-or-zero .ensures ∙ ap maskOrZero (m .before .layout-reset .ensures)) ∙ sym (chosen _ outOfRange t),
       c .lay-out .ensures ∙ sym (chosen _ (a .self) t),
     )
 
@@ -41,7 +41,7 @@ set-layout-spec =
     (tie.spec
     is-layout-requires
     layout-reset-requires
-    mask-in-requires
+    mask-or-zero-requires
     lay-out-requires
     returns
     returns-2)
