@@ -55,7 +55,7 @@ step-formed e b f =
 next-formed : (e : End) (c : Call) → EndFormed e → EndFormed (next e c)
 next-formed e (byteByValue b) f = step-formed e b f
 next-formed e (byteLent b) f = step-formed e b f
-next-formed e (setLayout l) f = search (received, set-formed, f .receiver-formed)
+next-formed e (setLayout l) f = search (set-formed, f .receiver-formed)
 next-formed e (setRpnReception channel on) f = set-at e _ _ f
 next-formed e (setNrpnReception channel on) f = set-at e _ _ f
 next-formed e layout f = f
