@@ -14,7 +14,7 @@ use mir.Val.{SFits}
 use Rattle.ump.specs.Choice.{if_then_else_}
 use Rattle.mpe_pitch.specs.declared.MpeSensitivity.{MpeSensitivity}
 use Rattle.mpe_pitch.specs.Pitch.{rangeOf, nearest, apart, pitchOffset}
-use Rattle.mpe_pitch.specs.Claims.{NearestTo, Within, scaled, OffsetNearest, NoTie, OffsetWithin, SumWithin, OffsetRises}
+use Rattle.mpe_pitch.specs.Claims.{NearestTo, Within, scaled, OffsetNearest, NoTie, OffsetWithin, OffsetRises}
 use Rattle.mpe_pitch.proofs.Order.{pos-le, neg-le-pos, neg-le-neg, sum, within-fits}
 
 -- a magnitude and its sign
@@ -91,7 +91,7 @@ exact-by d v false f g =
 exact : (d v : ℕ) → pos d *ℤ (pos v -ℤ pos 8192) ≡ turn (ltb v 8192) (d * apart v 8192)
 exact d v = exact-by d v (ltb v 8192) (ltb-true v 8192) (ltb-false v 8192)
 
-pub offset-nearest : OffsetNearest
+pub offset-nearest : (value : ℕ) (s : MpeSensitivity) → OffsetNearest value s (pitchOffset value s)
 unfolding pitchOffset
 offset-nearest value s =
     let d = rangeOf s in
@@ -101,8 +101,8 @@ offset-nearest value s =
       λ (z : ℤ) (h : NearestTo (scaled value s) 8191 z). only-turn (ltb v 8192) n z (rw (exact d v) at h),
     )
 
-pub no-tie : NoTie
-no-tie n z h = omega arith
+pub no-tie : (value : ℕ) (s : MpeSensitivity) → NoTie value s
+no-tie value s z h = omega arith
 
 -- ---- bounds
 
@@ -118,12 +118,13 @@ within-by d v false h l g =
     let p : d * apart v 8192 ≤ 1282700 * 8191 = mul-le-mul {n₂ = 1282700} {m₂ = 8191} h (omega arith) in
     (neg-le-pos 1282857 (nearest (d * apart v 8192) 8191), pos-le (nearest (d * apart v 8192) 8191) 1282700 (omega arith))
 
-pub offset-within : OffsetWithin
+pub offset-within : (value : ℕ) (s : MpeSensitivity) → OffsetWithin (pitchOffset value s)
 unfolding pitchOffset
 offset-within value s =
     within-by (rangeOf s) (value % 2 ^ 14) (ltb (value % 2 ^ 14) 8192) (range-le s) (omega arith) (ltb-false (value % 2 ^ 14) 8192)
 
-pub sum-within : SumWithin
+-- a member's offset is added to its manager's
+pub sum-within : (v w : ℕ) (s t : MpeSensitivity) → Within 2565714 2565400 (pitchOffset v s +ℤ pitchOffset w t)
 sum-within v w s t =
     sum 1282857 1282700 1282857 1282700 (pitchOffset v s) (pitchOffset w t) (offset-within v s) (offset-within w t)
 
@@ -150,9 +151,9 @@ rises-by d v w false false h f g =
     let j = f refl in
     pos-le (nearest (d * apart v 8192) 8191) (nearest (d * apart w 8192) 8191) (over d (apart v 8192) (apart w 8192) (omega arith))
 
-pub offset-rises : OffsetRises
+pub offset-rises : (v : ℕ) (s : MpeSensitivity) → OffsetRises v s (pitchOffset v s)
 unfolding pitchOffset
-offset-rises v w s h l =
+offset-rises v s w h l =
     let e : v % 2 ^ 14 ≡ v = omega arith in
     let f : w % 2 ^ 14 ≡ w = omega arith in
     rw (e, f) (rises-by (rangeOf s) v w (ltb v 8192) (ltb w 8192) h (ltb-false v 8192) (ltb-true w 8192))

@@ -1,7 +1,7 @@
 -- What holds of pitch offsets, whatever the sensitivity and the value (document 01, "Layout and pitch").
 use mathlib.Core.Path.{_≡_}
 use Prim.Native.Nat.{ℕ, _*_, _%_, _^_, _<_, _≤_}
-use lib.IntN.{ℤ, pos, negℤ, natAbs, _+ℤ_, _-ℤ_, _*ℤ_}
+use lib.IntN.{ℤ, pos, negℤ, natAbs, _-ℤ_, _*ℤ_}
 use lib.Signed.{_≤ℤ_}
 use Rattle.mpe_pitch.specs.declared.MpeSensitivity.{MpeSensitivity}
 use Rattle.mpe_pitch.specs.Pitch.{rangeOf, pitchOffset}
@@ -19,28 +19,21 @@ abbrev pub scaled : ℕ → MpeSensitivity → ℤ
 scaled value s = pos (rangeOf s) *ℤ (pos (value % 2 ^ 14) -ℤ pos 8192)
 
 -- the offset is nearest to d × (value − 8192) / 8191, and no other integer is
-abbrev pub OffsetNearest : Type 0
-OffsetNearest =
-    (value : ℕ) (s : MpeSensitivity) →
-    NearestTo (scaled value s) 8191 (pitchOffset value s)
-    × ((z : ℤ) → NearestTo (scaled value s) 8191 z → z ≡ pitchOffset value s)
+abbrev pub OffsetNearest : ℕ → MpeSensitivity → ℤ → Type 0
+OffsetNearest value s offset =
+    NearestTo (scaled value s) 8191 offset × ((z : ℤ) → NearestTo (scaled value s) 8191 z → z ≡ offset)
 
 -- over 8191, which is odd, nothing lies halfway
-abbrev pub NoTie : Type 0
-NoTie = (n z : ℤ) → Tie n 8191 z → ⊥
+abbrev pub NoTie : ℕ → MpeSensitivity → Type 0
+NoTie value s = (z : ℤ) → Tie (scaled value s) 8191 z → ⊥
 
 -- z lies from −low to high
 abbrev pub Within : ℕ → ℕ → ℤ → Type 0
 Within low high z = (negℤ (pos low) ≤ℤ z) × (z ≤ℤ pos high)
 
-abbrev pub OffsetWithin : Type 0
-OffsetWithin = (value : ℕ) (s : MpeSensitivity) → Within 1282857 1282700 (pitchOffset value s)
-
--- a member's offset is added to its manager's
-abbrev pub SumWithin : Type 0
-SumWithin =
-    (v w : ℕ) (s t : MpeSensitivity) → Within 2565714 2565400 (pitchOffset v s +ℤ pitchOffset w t)
+abbrev pub OffsetWithin : ℤ → Type 0
+OffsetWithin offset = Within 1282857 1282700 offset
 
 -- the offset never falls as a 14-bit value rises
-abbrev pub OffsetRises : Type 0
-OffsetRises = (v w : ℕ) (s : MpeSensitivity) → v ≤ w → w < 2 ^ 14 → pitchOffset v s ≤ℤ pitchOffset w s
+abbrev pub OffsetRises : ℕ → MpeSensitivity → ℤ → Type 0
+OffsetRises value s offset = (w : ℕ) → value ≤ w → w < 2 ^ 14 → offset ≤ℤ pitchOffset w s

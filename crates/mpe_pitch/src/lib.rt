@@ -4,7 +4,7 @@ ghost use Prim.Native.Nat.{_+_, _*_, _<_, _≤_, min};
 ghost use lib.IntN.{natAbs};
 ghost use Rattle.ump.specs.Choice.{if_then_else_};
 ghost use Rattle.mpe_pitch.specs.Pitch.{managerDefault, memberDefault, rangeOf, nearest, pitchOffset, pitchBendValue};
-ghost use Rattle.mpe_pitch.specs.Claims.{NearestTo, Within, scaled};
+ghost use Rattle.mpe_pitch.specs.Claims.{OffsetNearest, NoTie, OffsetWithin, OffsetRises};
 
 // A Pitch Bend Sensitivity: semitones (Data Entry MSB of RPN 0) and cents (LSB), 7 bits each (M1-100 2.2.5).
 pub struct MpeSensitivity {
@@ -39,7 +39,8 @@ impl MpeSensitivity {
     pub fn units(self) -> u32
         ensures { λ r. ⌜ (r ≡ rangeOf self) × (r ≤ 1282700) ⌝ }
     {
-        (((self.semitones & 0x7F) as u32) * 100 + ((self.cents & 0x7F) as u32)) * 100
+        ((self.semitones & 0x7F) as u32) * (PITCH_UNITS_PER_SEMITONE as u32)
+            + ((self.cents & 0x7F) as u32) * 100
     }
 }
 
@@ -111,8 +112,10 @@ fn scale_over_8191(d: u32, m: u32) -> u32
 // The pitch offset of a received 14-bit Pitch Bend value (Appendix C.5).
 pub fn pitch_offset(value: u16, sensitivity: MpeSensitivity) -> i32
     ensures is { λ r. ⌜ r ≡ pitchOffset value sensitivity ⌝ }
-    ensures nearest { λ r. ⌜ NearestTo (scaled value sensitivity) 8191 r ⌝ }
-    ensures within { λ r. ⌜ Within 1282857 1282700 r ⌝ }
+    ensures nearest { λ r. ⌜ OffsetNearest value sensitivity r ⌝ }
+    ensures untied { λ _. ⌜ NoTie value sensitivity ⌝ }
+    ensures within { λ r. ⌜ OffsetWithin r ⌝ }
+    ensures rises { λ r. ⌜ OffsetRises value sensitivity r ⌝ }
 {
     let v = (value & 0x3FFF) as u32;
     let d = sensitivity.units();

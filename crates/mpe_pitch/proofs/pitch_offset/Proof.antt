@@ -1,6 +1,6 @@
 -- `mpe_pitch::pitch_offset` meets its contract: the magnitude by `scale_over_8191`, the sign by the test, and the claims on offsets.
 -- Assumes nothing.
-use mathlib.Core.Path.{_≡_, _∙_}
+use mathlib.Core.Path.{_≡_, _∙_, sym, subst}
 use Prim.Native.Nat.{ℕ, _*_, _-_, _<_, _≤_, _^_, _%_}
 use native.Mathlib.Omega.{arith}
 use borrow.Author.Needs.{needs}
@@ -11,9 +11,9 @@ use mir.Syntax.{w32}
 use mir.ValLaws.{toZ-pos}
 use Rattle.mpe_pitch.specs.declared.MpeSensitivity.{MpeSensitivity}
 use Rattle.mpe_pitch.specs.Pitch.{nearest, apart, rangeOf, offsetIn, pitchOffset}
-use Rattle.mpe_pitch.specs.Claims.{NearestTo, Within, scaled}
+use Rattle.mpe_pitch.specs.Claims.{OffsetNearest, NoTie, OffsetWithin, OffsetRises}
 use Rattle.mpe_pitch.proofs.Sign.{minus-fits, minus-back}
-use Rattle.mpe_pitch.proofs.Offset.{offset-nearest, offset-within}
+use Rattle.mpe_pitch.proofs.Offset.{offset-nearest, no-tie, offset-within, offset-rises}
 use Rattle.mpe_pitch.proofs.pitch_offset.Statement.{statement}
 use Rattle.mpe_pitch.proofs.pitch_offset.Tie as tie
 
@@ -52,9 +52,13 @@ above d v k h e =
     let z : apart v 8192 ≡ v - 8192 = omega arith in
     rw (le-ltb v 8192 h, z, e)
 
--- what equals the offset is nearest and within its bounds
-whole : (z : ℤ) (value : ℕ) (s : MpeSensitivity) → z ≡ pitchOffset value s → (z ≡ pitchOffset value s) × (NearestTo (scaled value s) 8191 z × Within 1282857 1282700 z)
-whole z value s e = (e, (rw e (offset-nearest value s .0), rw e (offset-within value s)))
+-- what equals the offset has all that is claimed of it
+abbrev Claimed : ℕ → MpeSensitivity → ℤ → Type 0
+Claimed value s z = OffsetNearest value s z × (NoTie value s × (OffsetWithin z × OffsetRises value s z))
+
+whole : (z : ℤ) (value : ℕ) (s : MpeSensitivity) → z ≡ pitchOffset value s → (z ≡ pitchOffset value s) × Claimed value s z
+whole z value s e =
+    (e, subst (λ (x : ℤ). Claimed value s x) (sym e) (offset-nearest value s, (no-tie value s, (offset-within value s, offset-rises value s))))
 
 returns : tie.Need-returns
 unfolding pitchOffset
