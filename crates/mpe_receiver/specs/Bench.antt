@@ -1,10 +1,9 @@
 -- The bench examples that document 01, "Bench examples", marks with a star, as one table: layouts, pitch and RPN 0.
-use Prim.Native.Nat.{ℕ, _+_, _*_}
+use Prim.Native.Nat.{ℕ, _+_, _*_, _^_}
 use mathlib.Core.List.{List, [], _∷_, map}
 use mathlib.Core.Path.{_≡_}
 use lib.IntN.{ℤ, pos, negℤ}
 use Rattle.ump.specs.Outcome.{Outcome, given, outOfRange}
-use Rattle.ump.specs.Packet.{packetValue}
 use Rattle.ump.specs.declared.controller.Rpn.the-variants.{PitchBendSensitivity}
 use Rattle.parameter_event.specs.declared.Parameter.the-variants.{Registered}
 use Rattle.parameter_event.specs.declared.ParameterChange.{ParameterChange}
@@ -15,9 +14,9 @@ use Rattle.mpe_layout.specs.declared.MpeZone.the-variants.{Lower, Upper}
 use Rattle.mpe_layout.specs.declared.MpeRole.{MpeRole}
 use Rattle.mpe_layout.specs.declared.MpeRole.the-variants.{Member}
 use Rattle.mpe_layout.specs.declared.MpeLayout.{MpeLayout}
-use Rattle.mpe_layout.specs.Layout.{layoutOf, ofLegal, roleOf, withMcm}
+use Rattle.mpe_layout.specs.Layout.{layoutOf, newLayout, mcmLayout, roleGiven}
 use Rattle.mpe_pitch.specs.declared.MpeSensitivity.{MpeSensitivity}
-use Rattle.mpe_pitch.specs.Pitch.{managerDefault, memberDefault, pitchOffset, pitchBendValue}
+use Rattle.mpe_pitch.specs.Pitch.{pitchOffset, pitchBendValue}
 
 -- a call, with its arguments
 pub data BenchCall : Type 0 where
@@ -30,21 +29,24 @@ pub data BenchCall : Type 0 where
   apply : ParameterChange → ℕ → ℕ → BenchCall
 
 -- what a call answers
-pub data Reply : Type 0 where
-  asLayout : Outcome MpeLayout → Reply
-  asRole : Outcome MpeRole → Reply
-  asValue : ℕ → Reply
-  asOffset : ℤ → Reply
+pub data BenchReply : Type 0 where
+  asLayout : Outcome MpeLayout → BenchReply
+  asRole : Outcome MpeRole → BenchReply
+  asValue : ℕ → BenchReply
+  asOffset : ℤ → BenchReply
 
 -- semitones and cents as one value of 14 bits
 abbrev inAll : ℕ → ℕ → ℕ
-inAll semitones cents = semitones * 128 + cents
+inAll semitones cents = semitones * 2 ^ 7 + cents
 
--- what the contract of the call says
-unfoldable pub replyTo : BenchCall → Reply
-replyTo (new lower upper) = asLayout (ofLegal (layoutOf lower upper) (given (layoutOf lower upper)))
-replyTo (with-mcm l zone members) = asLayout (ofLegal l (given (withMcm l zone members)))
-replyTo (role l channel) = asRole (ofLegal l (given (roleOf l (packetValue channel))))
+abbrev sensitivity : ℕ → ℕ → MpeSensitivity
+sensitivity semitones cents = record { semitones = semitones; cents = cents }
+
+-- what the call answers, by the term that its contract cites
+unfoldable pub replyTo : BenchCall → BenchReply
+replyTo (new lower upper) = asLayout (newLayout lower upper)
+replyTo (with-mcm l zone members) = asLayout (mcmLayout l zone members)
+replyTo (role l channel) = asRole (roleGiven l channel)
 replyTo (pitch-bend-value offset s) = asValue (pitchBendValue offset s)
 replyTo (pitch-offset value s) = asOffset (pitchOffset value s)
 replyTo (apply change semitones cents) =
@@ -52,12 +54,11 @@ replyTo (apply change semitones cents) =
 
 pub record Example : Type 0 where
   pub call : BenchCall
-  pub reply : Reply
+  pub reply : BenchReply
 
-abbrev example : BenchCall → Reply → Example
+abbrev example : BenchCall → BenchReply → Example
 example c r = record { call = c; reply = r }
 
--- 2/0 and 48/0 are the defaults of a manager and of members
 unfoldable pub table : List Example
 table =
     example (new 13 1) (asLayout (given (layoutOf 13 1)))
@@ -68,12 +69,12 @@ table =
     ∷ example (with-mcm (layoutOf 7 7) Upper 0) (asLayout (given (layoutOf 7 0)))
     ∷ example (with-mcm (layoutOf 7 7) Lower 16) (asLayout (given (layoutOf 7 7)))
     ∷ example (role (layoutOf 15 0) 15) (asRole (given (Member Lower)))
-    ∷ example (pitch-bend-value (pos 10000) managerDefault) (asValue 12288)
-    ∷ example (pitch-bend-value (pos 19999) managerDefault) (asValue 16383)
-    ∷ example (pitch-bend-value (negℤ (pos 19999)) managerDefault) (asValue 0)
-    ∷ example (pitch-offset 0 memberDefault) (asOffset (negℤ (pos 480059)))
-    ∷ example (pitch-offset 16383 memberDefault) (asOffset (pos 480000))
-    ∷ example (pitch-offset 12288 memberDefault) (asOffset (pos 240029))
+    ∷ example (pitch-bend-value (pos 10000) (sensitivity 2 0)) (asValue 12288)
+    ∷ example (pitch-bend-value (pos 19999) (sensitivity 2 0)) (asValue 16383)
+    ∷ example (pitch-bend-value (negℤ (pos 19999)) (sensitivity 2 0)) (asValue 0)
+    ∷ example (pitch-offset 0 (sensitivity 48 0)) (asOffset (negℤ (pos 480059)))
+    ∷ example (pitch-offset 16383 (sensitivity 48 0)) (asOffset (pos 480000))
+    ∷ example (pitch-offset 12288 (sensitivity 48 0)) (asOffset (pos 240029))
     ∷ example (apply Increment 2 110) (asValue (inAll 3 0))
     ∷ example (apply Decrement 3 0) (asValue (inAll 2 99))
     ∷ []

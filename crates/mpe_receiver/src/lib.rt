@@ -9,6 +9,7 @@ ghost use Rattle.mpe_zones.specs.Update.{mpeReplyRead, resetIn};
 ghost use Rattle.mpe_receiver.specs.State.{newReceiver, zonesOf, withZones};
 ghost use Rattle.mpe_receiver.specs.Receive.{stored, restUpto, receiverReply, receiverAfter, setReply, setState, settled};
 ghost use Rattle.mpe_receiver.specs.Read.{modeOf, sensitivityOf, bendAt, pressureAt, brightnessAt, managerOffset, memberOffset, offsetByRole, offsetOf, offsetRead};
+ghost use Rattle.mpe_receiver.specs.Bench.{TableHolds};
 use mpe_layout::MpeLayout;
 use mpe_layout::MpeRole;
 use mpe_layout::MpeZone;
@@ -66,7 +67,8 @@ pub enum Offset {
 impl MpeReceiver {
     // No zone, mode 3, and the controls of each channel at rest.
     pub fn new() -> MpeReceiver
-        ensures { λ r. ⌜ r ≡ newReceiver ⌝ }
+        ensures is { λ r. ⌜ r ≡ newReceiver ⌝ }
+        ensures table { λ _. ⌜ TableHolds ⌝ }
     {
         let none = MpeLayout::NONE;
         MpeReceiver {
