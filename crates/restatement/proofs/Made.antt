@@ -21,7 +21,7 @@ use Rattle.mpe_sender.specs.Writers.{controlWord, mcmMessages, modeOn, modeMess
 use Rattle.mpe_sender.specs.Zone.{zoneGroups, zoneWords, fillReply, zoneReply, filled}
 use Rattle.mpe_sender.proofs.Groups.{groups-length}
 use Rattle.mpe_sender.proofs.Zones.{lowest-lt}
-use Rattle.settings.specs.Settings.{zoneOf, membersIn, isMono, bendOn, pressureOn, brightnessOn, allowed}
+use Rattle.settings.specs.Settings.{zoneOf, membersIn, isMono, shownSensitivity, shownMode, bendOn, pressureOn, brightnessOn, allowed}
 use Rattle.settings.specs.Messages.{announcement, sensitivities, modes, controlsOn, wordsIn, countIn}
 use Rattle.settings.specs.declared.Settings.{Settings}
 use Rattle.settings.proofs.Allowed.{allowed-legal, allowed-zone, allowed-channel}
@@ -59,7 +59,7 @@ mode-on s zone false h some = control-made (lowestOf (s .layout) zone) 127 0 (lo
 
 -- D
 pub mode-made : (s : Settings) (zone : MpeZone) → allowed s ≡ true
-    → wordsIn (allOf (modeMessage (s .layout) zone (isMono (zoneOf s zone)) ∷ [])) ≡ modes s zone
+    → wordsIn (allOf (modeMessage (s .layout) zone (eqb (shownMode s zone) 4) ∷ [])) ≡ modes s zone
 unfolding modes
 mode-made s zone h =
     let g = allowed-legal s h in
@@ -68,9 +68,12 @@ mode-made s zone h =
     (λ e. rw (g, e, mode-on s zone (isMono (zoneOf s zone)) g (omega (arith, eqb-false (membersIn s zone) 0 e))))
 
 -- C: how many words are written, and the buffer
+abbrev semitonesShown : Settings → MpeZone → Bool → ℕ
+semitonesShown s zone manager = shownSensitivity s zone manager .semitones
+
 pub record Written (s : Settings) (zone : MpeZone) (got : ℕ) : Type 0 where
-  pub count : countIn (zoneReply (s .layout) zone (zoneOf s zone .manager) (zoneOf s zone .member) got) ≡ length (sensitivities s zone)
-  pub buffer : (part : List ℕ) → filled (zoneReply (s .layout) zone (zoneOf s zone .manager) (zoneOf s zone .member) got) (zoneWords (s .layout) zone (zoneOf s zone .manager) (zoneOf s zone .member)) part
+  pub count : countIn (zoneReply (s .layout) zone (semitonesShown s zone true) (semitonesShown s zone false) got) ≡ length (sensitivities s zone)
+  pub buffer : (part : List ℕ) → filled (zoneReply (s .layout) zone (semitonesShown s zone true) (semitonesShown s zone false) got) (zoneWords (s .layout) zone (semitonesShown s zone true) (semitonesShown s zone false)) part
       ≡ sensitivities s zone ++ drop (length (sensitivities s zone)) part
 
 pub sensitivities-made : (s : Settings) (zone : MpeZone) (got : ℕ) → allowed s ≡ true → length (sensitivities s zone) ≤ got → Written s zone got
@@ -86,7 +89,9 @@ sensitivities-made s zone got h l =
     groups-length (zoneGroups (managerOf zone) (lowestOf (s .layout) zone) (zoneOf s zone .manager) (zoneOf s zone .member)) (membersIn s zone + 1) in
     let f : length (zoneWords (s .layout) zone (zoneOf s zone .manager) (zoneOf s zone .member)) ≤ got = rw e at l in
     let fits : m ≤ got = rw n at f in
+    let manager : semitonesShown s zone true ≡ zoneOf s zone .manager = rw (e, semitonesShown) in
+    let member : semitonesShown s zone false ≡ zoneOf s zone .member = rw (e, semitonesShown) in
     record {
-      count = rw (g, e, le-ltb 96 (zoneOf s zone .manager) (z .0), le-ltb 96 (zoneOf s zone .member) (z .1), le-ltb got m fits) (sym n);
-      buffer = λ part. rw (g, e, le-ltb 96 (zoneOf s zone .manager) (z .0), le-ltb 96 (zoneOf s zone .member) (z .1), le-ltb got m fits, n);
+      count = rw (manager, member, g, e, le-ltb 96 (zoneOf s zone .manager) (z .0), le-ltb 96 (zoneOf s zone .member) (z .1), le-ltb got m fits) (sym n);
+      buffer = λ part. rw (manager, member, g, e, le-ltb 96 (zoneOf s zone .manager) (z .0), le-ltb 96 (zoneOf s zone .member) (z .1), le-ltb got m fits, n);
     })

@@ -196,12 +196,13 @@ fn write_sensitivities(out: &mut [u32], at: usize, settings: Settings, zone: Mpe
     ensures place { λ r. ⌜ r ≡ at + length (sensitivities settings zone) ⌝ }
     ensures buffer { λ _. ⌜ now (out .exit) ≡ sets (now (out .entry)) at (sensitivities settings zone) ⌝ }
 {
-    let set = settings.zone(zone);
+    let manager = settings.shown_sensitivity(zone, true);
+    let member = settings.shown_sensitivity(zone, false);
     let written = zone_sensitivity_messages(
         settings.layout,
         zone,
-        set.manager,
-        set.member,
+        manager.semitones,
+        member.semitones,
         &mut out[at..],
     );
     place_after(at, written)
@@ -213,8 +214,8 @@ fn write_mode(out: &mut [u32], at: usize, settings: Settings, zone: MpeZone) -> 
     ensures place { λ r. ⌜ r ≡ at + length (modes settings zone) ⌝ }
     ensures buffer { λ _. ⌜ now (out .exit) ≡ sets (now (out .entry)) at (modes settings zone) ⌝ }
 {
-    let set = settings.zone(zone);
-    put_one(out, at, mode_message(settings.layout, zone, set.mode == 4))
+    let mono = settings.shown_mode(zone) == 4;
+    put_one(out, at, mode_message(settings.layout, zone, mono))
 }
 
 // E. The null parameter on each channel.

@@ -21,9 +21,9 @@ use Rattle.receiving_end.specs.Lists.{Call, mode, sensitivity, laidOut, counted
 use Rattle.receiving_end.proofs.Messages.{system-read}
 use Rattle.receiving_end.proofs.Always.{new-end-formed, always-formed}
 use Rattle.settings.specs.declared.Settings.{Settings}
-use Rattle.settings.specs.Settings.{zoneOf, membersIn, isMono, allowed}
+use Rattle.settings.specs.Settings.{zoneOf, membersIn, isMono, shownSensitivity, shownMode, allowed}
 use Rattle.settings.specs.Messages.{restatement}
-use Rattle.settings.specs.Demand.{SwitchesAsNew, Arrives, whole, by-value, lent, between-by-value, between-lent, shownSensitivity, shownMode, Shown, Demand}
+use Rattle.settings.specs.Demand.{SwitchesAsNew, Arrives, whole, by-value, lent, between-by-value, between-lent, Shown, Demand}
 use Rattle.settings.proofs.Allowed.{allowed-zone}
 use Rattle.settings.proofs.Clear.{AsNew}
 use Rattle.settings.proofs.Settle.{Controlled}

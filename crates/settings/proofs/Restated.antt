@@ -21,9 +21,8 @@ use Rattle.receiving_end.specs.declared.end.End.{End}
 use Rattle.receiving_end.specs.End.{blankState, parameterAt}
 use Rattle.receiving_end.specs.WellFormed.{EndFormed}
 use Rattle.settings.specs.declared.Settings.{Settings}
-use Rattle.settings.specs.Settings.{zoneOf, membersIn, isMono, bendOn, pressureOn, brightnessOn, allowed}
+use Rattle.settings.specs.Settings.{zoneOf, membersIn, isMono, semitonesOf, defaultFor, shownSensitivity, bendOn, pressureOn, brightnessOn, allowed}
 use Rattle.settings.specs.Messages.{resets, announcements, sensitivities, modes, deselections, controls, messages}
-use Rattle.settings.specs.Demand.{semitonesOf, defaultFor, shownSensitivity}
 use Rattle.settings.proofs.Allowed.{allowed-legal}
 use Rattle.settings.proofs.Received.{received-all, received-append}
 use Rattle.settings.proofs.Stage.{zonesAt, Stage}
@@ -57,7 +56,7 @@ moded-layout s zone z =
 
 -- by which zones are empty
 abbrev pub heldBy : Bool → Settings → MpeZone → Bool → MpeSensitivity
-heldBy empty s zone manager = if empty then defaultFor manager else record { semitones = semitonesOf s zone manager; cents = 0 }
+heldBy empty s zone manager = if empty then defaultFor manager else record { semitones = semitonesOf (zoneOf s zone) manager; cents = 0 }
 
 abbrev sensedBy : Bool → Settings → MpeZone → Zones → Zones
 sensedBy empty s zone z =

@@ -1,19 +1,15 @@
 -- Demand 3: what a restatement does to an end with any history (document 01, "Demand 3 in detail").
 use Prim.Native.Nat.{ℕ, _≤_}
-use mathlib.Core.Bool.{Bool, true, false}
+use mathlib.Core.Bool.{Bool}
 use mathlib.Core.Path.{_≡_}
 use mathlib.Core.List.{List, [], _∷_}
-use lib.Dec.{eqb}
-use Rattle.ump.specs.Choice.{if_then_else_}
 use Rattle.ump.specs.Packet.{packetValue}
 use Rattle.mpe_layout.specs.declared.MpeZone.{MpeZone}
-use Rattle.mpe_pitch.specs.declared.MpeSensitivity.{MpeSensitivity}
-use Rattle.mpe_pitch.specs.Pitch.{managerDefault, memberDefault}
 use Rattle.receiving_end.specs.declared.end.End.{End}
 use Rattle.receiving_end.specs.End.{newEnd}
 use Rattle.receiving_end.specs.Lists.{Call, byteByValue, byteLent, layout, mode, sensitivity, pitchBend, pressure, brightness, rpnReception, nrpnReception, laidOut, counted, ranged, answer, after, answers, afterBytes}
 use Rattle.settings.specs.declared.Settings.{Settings}
-use Rattle.settings.specs.Settings.{zoneOf, membersIn, bendOn, pressureOn, brightnessOn}
+use Rattle.settings.specs.Settings.{shownSensitivity, shownMode, bendOn, pressureOn, brightnessOn}
 
 -- every reception switch reads as on a new end
 pub record SwitchesAsNew (e : End) : Type 0 where
@@ -27,23 +23,6 @@ pub data Arrives : List ℕ → List Call → Type 0 where
   lent : {b : ℕ} {bytes : List ℕ} {calls : List Call} → Arrives bytes calls → Arrives (b ∷ bytes) (byteLent b ∷ calls)
   between-by-value : {b : ℕ} {bytes : List ℕ} {calls : List Call} → 0xF8 ≤ b → Arrives bytes calls → Arrives bytes (byteByValue b ∷ calls)
   between-lent : {b : ℕ} {bytes : List ℕ} {calls : List Call} → 0xF8 ≤ b → Arrives bytes calls → Arrives bytes (byteLent b ∷ calls)
-
--- the sensitivity that a zone shows: the settings' semitones and no cents, or in an empty zone 2/0 and 48/0
-abbrev pub semitonesOf : Settings → MpeZone → Bool → ℕ
-semitonesOf s zone true = zoneOf s zone .manager
-semitonesOf s zone false = zoneOf s zone .member
-
-abbrev pub defaultFor : Bool → MpeSensitivity
-defaultFor true = managerDefault
-defaultFor false = memberDefault
-
-abbrev pub shownSensitivity : Settings → MpeZone → Bool → MpeSensitivity
-shownSensitivity s zone manager =
-    if eqb (membersIn s zone) 0 then defaultFor manager else record { semitones = semitonesOf s zone manager; cents = 0 }
-
--- the mode that a zone shows: the settings', or in an empty zone 3
-abbrev pub shownMode : Settings → MpeZone → ℕ
-shownMode s zone = if eqb (membersIn s zone) 0 then 3 else zoneOf s zone .mode
 
 -- the readings on the end give the settings
 pub record Shown (s : Settings) (e : End) : Type 0 where

@@ -7,6 +7,7 @@ use Rattle.ump.specs.Choice.{if_then_else_}
 use Rattle.mpe_layout.specs.declared.MpeZone.{MpeZone}
 use Rattle.mpe_layout.specs.declared.MpeZone.the-variants.{Lower, Upper}
 use Rattle.mpe_layout.specs.Layout.{layoutOf, legal, membersOf}
+use Rattle.mpe_pitch.specs.declared.MpeSensitivity.{MpeSensitivity}
 use Rattle.mpe_pitch.specs.Pitch.{managerDefault, memberDefault}
 use Rattle.settings.specs.declared.ZoneSettings.{ZoneSettings}
 use Rattle.settings.specs.declared.Settings.{Settings}
@@ -37,6 +38,23 @@ membersIn s zone = membersOf (s .layout) zone
 -- mode 4 is mono, mode 3 poly
 abbrev pub isMono : ZoneSettings → Bool
 isMono z = eqb (z .mode) 4
+
+-- the sensitivity that a zone shows: the settings' semitones and no cents, or in an empty zone 2/0 and 48/0 (document 01, "Demand 3 in detail")
+abbrev pub semitonesOf : ZoneSettings → Bool → ℕ
+semitonesOf z true = z .manager
+semitonesOf z false = z .member
+
+abbrev pub defaultFor : Bool → MpeSensitivity
+defaultFor true = managerDefault
+defaultFor false = memberDefault
+
+abbrev pub shownSensitivity : Settings → MpeZone → Bool → MpeSensitivity
+shownSensitivity s zone manager =
+    if eqb (membersIn s zone) 0 then defaultFor manager else record { semitones = semitonesOf (zoneOf s zone) manager; cents = 0 }
+
+-- the mode that a zone shows: the settings', or in an empty zone 3
+abbrev pub shownMode : Settings → MpeZone → ℕ
+shownMode s zone = if eqb (membersIn s zone) 0 then 3 else zoneOf s zone .mode
 
 -- what is set for a channel below 16
 abbrev pub bendOn : Settings → ℕ → ℕ

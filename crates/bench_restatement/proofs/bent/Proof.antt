@@ -22,7 +22,7 @@ returns c =
       pressure = s .pressure;
       brightness = s .brightness;
     })
-    (c .before .new .ensures)
+    (c .before .new .ensures .0)
 
 pub bent-spec : {M : Type 1} → statement M
 bent-spec = tie.close (tie.spec new-requires returns)

@@ -13,8 +13,8 @@ use borrow.Author.Needs.{needs}
 use Rattle.restatement.proofs.write_mode.Statement.{statement}
 use Rattle.restatement.proofs.write_mode.Tie as tie
 
-zone-requires : tie.Need-zone-requires
-zone-requires c κs = search needs
+shown-mode-requires : tie.Need-shown-mode-requires
+shown-mode-requires c κs = search needs
 
 mode-message-requires : tie.Need-mode-message-requires
 mode-message-requires c κs = search needs
@@ -28,13 +28,13 @@ same-length c = search needs
 returns : tie.Need-returns
 returns c = let p = c .before .before in
     let m = p .before in
-    let a = m .before .before .before .before .before in
+    let a = m .before .before .before .before in
     let s = a .args .settings in
     let z = a .args .zone in
     let e : wordsIn (allOf (messageMade (m .mode-message .result) ∷ [])) ≡ modes s z =
-    rw (m .mode-message .ensures, m .before .before .before .zone .ensures) (mode-made s z (a .pre .0)) in
+    rw (m .mode-message .ensures, m .before .before .shown-mode .ensures) (mode-made s z (a .pre .0)) in
     (p .put-one .ensures .0 ∙ ap (λ l. a .args .at + length l) e, p .put-one .ensures .1 ∙ ap (λ l. sets (a .args .out .now) (a .args .at) l) e)
 
 pub write-mode-spec : {M : Type 1} → statement M
 write-mode-spec =
-    tie.close (tie.spec zone-requires mode-message-requires put-one-requires same-length returns)
+    tie.close (tie.spec shown-mode-requires mode-message-requires put-one-requires same-length returns)

@@ -1,0 +1,41 @@
+-- `settings::Settings::shown_sensitivity` meets its contract: by whose it is, and whether the zone has members.
+-- Assumes nothing.
+use Prim.Native.Nat.{ℕ}
+use mathlib.Core.Path.{sym, ap, _∙_}
+use borrow.Author.Needs.{needs}
+use borrow.Author.Tests.{eq-eqb, ne-eqb}
+use Rattle.mpe_pitch.specs.declared.MpeSensitivity.{MpeSensitivity}
+use Rattle.settings.specs.declared.ZoneSettings.{ZoneSettings}
+use Rattle.settings.proofs.Settings.shown_sensitivity.Statement.{statement}
+use Rattle.settings.proofs.Settings.shown_sensitivity.Tie as tie
+
+abbrev asSet : ℕ → MpeSensitivity
+asSet semitones = record { semitones = semitones; cents = 0 }
+
+zone-requires : tie.Need-zone-requires
+zone-requires c κs = search needs
+
+members-requires : tie.Need-members-requires
+members-requires c κs = search needs
+
+returns : tie.Need-returns
+returns c =
+    rw (c .before .if1 .taken, eq-eqb _ 0 (sym (c .before .before .members .ensures) ∙ c .if2 .taken))
+
+returns-2 : tie.Need-returns-2
+returns-2 c =
+    rw (c .before .if1 .taken, ne-eqb _ 0 (λ z. c .if2 .left (c .before .before .members .ensures ∙ z)))
+    (ap (λ (z : ZoneSettings). asSet (z .manager)) (c .before .before .before .zone .ensures))
+
+returns-3 : tie.Need-returns-3
+returns-3 c =
+    rw (c .before .if1 .left, eq-eqb _ 0 (sym (c .before .before .members .ensures) ∙ c .if3 .taken))
+
+returns-4 : tie.Need-returns-4
+returns-4 c =
+    rw (c .before .if1 .left, ne-eqb _ 0 (λ z. c .if3 .left (c .before .before .members .ensures ∙ z)))
+    (ap (λ (z : ZoneSettings). asSet (z .member)) (c .before .before .before .zone .ensures))
+
+pub shown-sensitivity-spec : {M : Type 1} → statement M
+shown-sensitivity-spec =
+    tie.close (tie.spec zone-requires members-requires returns returns-2 returns-3 returns-4)
