@@ -1,4 +1,4 @@
-// Items 00 to 07: the receiving end.
+// Items 00 to 08: the receiving end.
 use crate::arguments::Item;
 use crate::line::Line;
 use crate::parameter_items;
@@ -9,6 +9,7 @@ use mpe_layout::MpeZone;
 use receiving_end::end::End;
 use receiving_end::end::Reply;
 use receiving_end::end::Stepped;
+use receiving_end::end::byte;
 use receiving_end::end::step;
 
 // The end after an item, and the answer.
@@ -34,6 +35,16 @@ fn stepped(stepped: Stepped) -> EndAnswered {
     EndAnswered {
         end,
         line: reply(r),
+    }
+}
+
+// The thin byte call: a local end is lent to it.
+fn thin_byte_of(e: End, b: u8) -> Stepped {
+    let mut end = e;
+    let reply = byte(&mut end, b);
+    Stepped {
+        end: end,
+        reply: reply,
     }
 }
 
@@ -103,6 +114,9 @@ pub(crate) fn answer(end: End, item: Item) -> EndAnswered {
     }
     if operation == 0x02 {
         return stepped(byte_of(end, first));
+    }
+    if operation == 0x08 {
+        return stepped(thin_byte_of(end, first));
     }
     if operation == 0x03 {
         return set_layout(end, first, second);

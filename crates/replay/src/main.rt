@@ -15,6 +15,7 @@ mod run;
 mod sender_items;
 mod states;
 mod tokens;
+mod word_items;
 
 use libc::STDERR_FILENO;
 use libc::STDIN_FILENO;

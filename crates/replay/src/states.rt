@@ -9,6 +9,7 @@ use crate::pitch_items;
 use crate::receiver_items;
 use crate::restatement_items;
 use crate::sender_items;
+use crate::word_items;
 use mpe_allocator::MpeNoteAllocator;
 use mpe_receiver::MpeReceiver;
 use parameters::ParameterState;
@@ -31,8 +32,11 @@ pub(crate) struct Answered {
 // The answer of an item that has no state.
 fn answer_plain(item: Item) -> Line {
     let operation = item.operation;
-    if operation < 0x20 {
+    if operation < 0x16 {
         return layout_items::answer(item);
+    }
+    if operation < 0x20 {
+        return word_items::answer(item);
     }
     if operation < 0x30 {
         return pitch_items::answer(item);

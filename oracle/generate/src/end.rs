@@ -7,9 +7,9 @@ const HARMLESS: [u8; 10] = [0xF8, 0xF8, 0xFA, 0xFB, 0xFC, 0xFE, 0xFF, 0xF4, 0xF5
 /// Bytes that end the running status.
 const BREAKING: [u8; 6] = [0xF0, 0xF1, 0xF2, 0xF3, 0xF6, 0xF7];
 
-/// Gives the end one byte, by value or lent.
+/// Gives the end one byte: by value, or lent to either of the two calls.
 pub fn byte(g: &mut Generator, byte: u8) {
-    let call = g.random.one_of(&[0x01, 0x02]);
+    let call = g.random.one_of(&[0x01, 0x02, 0x08]);
     g.items.put(&[call, byte]);
     match byte {
         0x80..=0xEF => g.status = Some(byte),

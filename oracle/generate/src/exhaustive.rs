@@ -27,6 +27,9 @@ pub fn trace(name: &str) -> Option<()> {
     let mut items = Items::printed(u64::MAX);
     match name {
         "layouts" => layouts(&mut items),
+        "packets" => packets(&mut items),
+        "constructors" => constructors(&mut items),
+        "words" => words(&mut items),
         "announcements" => announcements(&mut items),
         "classes" => classes(&mut items),
         "pitch" => pitch(&mut items),
@@ -53,6 +56,54 @@ fn layouts(items: &mut Items) {
         }
         for channel in 0..16 {
             items.put(&[0x12, lower, upper, channel]);
+        }
+    }
+}
+
+/// Item 16 with every byte, and a call's number past the last.
+fn packets(items: &mut Items) {
+    for call in 0..=4 {
+        for value in 0..=255 {
+            items.put(&[0x16, call, value]);
+        }
+    }
+}
+
+/// Item 17: every group and every channel as given; every two data bytes of a Control Change and a
+/// Note On; every data byte of a Channel Pressure; every value of a Pitch Bend; and a number past
+/// the last call.
+fn constructors(items: &mut Items) {
+    for call in 0..=4 {
+        for [group, channel] in pairs(17) {
+            items.put(&[0x17, call, group, channel, 0x7F, 0x01, 0x20, 0x01]);
+        }
+        for given in 18..=255 {
+            items.put(&[0x17, call, given, 1, 0x7F, 0x01, 0x20, 0x01]);
+            items.put(&[0x17, call, 1, given, 0x7F, 0x01, 0x20, 0x01]);
+        }
+    }
+    for [high, low] in pairs(255) {
+        items.put(&[0x17, 0, 0, 0, high, low, 0, 0]);
+        items.put(&[0x17, 1, 0, 0, high, low, 0, 0]);
+        items.put(&[0x17, 3, 0, 0, 0, 0, high, low]);
+    }
+    for pressure in 0..=255 {
+        items.put(&[0x17, 2, 0, 0, pressure, 0, 0, 0]);
+    }
+}
+
+/// Item 18: every message type, group, opcode and channel; and with each opcode every data byte
+/// beside the limits of the other.
+fn words(items: &mut Items) {
+    for [high, low] in pairs(255) {
+        items.put(&[0x18, high, low, 0x4A, 0x00]);
+    }
+    for opcode in 0..16 {
+        for limit in [0x00, 0x01, 0x40, 0x7F, 0x80, 0x81, 0xFF] {
+            for data in 0..=255 {
+                items.put(&[0x18, 0x20, opcode << 4 | 1, data, limit]);
+                items.put(&[0x18, 0x20, opcode << 4 | 1, limit, data]);
+            }
         }
     }
 }

@@ -17,6 +17,7 @@ mod restatement;
 mod sender;
 mod settings;
 mod triples;
+mod ump;
 mod values;
 mod words;
 
@@ -51,9 +52,10 @@ impl Generator {
 type Phrase = fn(&mut Generator);
 
 /// The kinds, and how often each is chosen beside the others.
-const KINDS: [(&str, Phrase, u32); 9] = [
+const KINDS: [(&str, Phrase, u32); 10] = [
     ("end", end::phrase, 6),
     ("layout", calls::layout, 3),
+    ("ump", ump::phrase, 3),
     ("pitch", calls::pitch, 6),
     ("apply", calls::apply, 6),
     ("parameters", receiver::parameters, 6),
@@ -66,8 +68,8 @@ const KINDS: [(&str, Phrase, u32); 9] = [
 const USAGE: &str = "usage: generate SEED COUNT [KIND..]
        generate --exhaustive NAME
        generate --triples SEED COUNT
-KIND: end layout pitch apply parameters receiver sender allocator restatement (by default all)
-NAME: layouts announcements classes pitch";
+KIND: end layout ump pitch apply parameters receiver sender allocator restatement (by default all)
+NAME: layouts packets constructors words announcements classes pitch";
 
 /// The kinds named, each as often as it is to be chosen; none for a name that is no kind.
 fn chosen(names: &[String]) -> Option<Vec<Phrase>> {

@@ -62,7 +62,10 @@ impl Random {
             1 => word | 0x80,
             2 => word ^ 1 << self.below(32),
             3 => word & 0xFF0F_FFFF | (self.one_of(&[0x0, 0x7, 0xF]) << 20),
-            4 => word & 0xFF0F_FFFF | 0x00C0_0000 | self.one_of(&[0x01, 0x40, 0x7F]),
+            4 => {
+                let one_data = self.one_of(&[0x00C0_0000, 0x00D0_0000]);
+                word & 0xFF0F_FF00 | one_data | self.one_of(&[0x01, 0x40, 0x7F])
+            }
             _ => self.word(),
         };
         bad.to_be_bytes()

@@ -60,6 +60,34 @@ pub fn words(messages: &[Midi1ChannelVoiceMessage]) -> Answer {
     Ok(numbers(messages.iter().map(|message| message.into_bits())))
 }
 
+/// The fields of a message by upstream's own cuts: message type, group, opcode, channel, and two
+/// data bytes, the second 0 where the message has one.
+pub fn fields(message: &Midi1ChannelVoiceMessage) -> String {
+    use Midi1ChannelVoiceMessage as Message;
+    macro_rules! fields {
+        ($message:ident, $first:expr, $second:expr) => {
+            numbers([
+                1,
+                $message.message_type().into_bits(),
+                $message.group().index(),
+                $message.opcode(),
+                $message.channel().index(),
+                $first,
+                $second,
+            ])
+        };
+    }
+    match message {
+        Message::NoteOff(m) => fields!(m, m.note(), m.velocity()),
+        Message::NoteOn(m) => fields!(m, m.note(), m.velocity()),
+        Message::PolyPressure(m) => fields!(m, m.note(), m.pressure()),
+        Message::ControlChange(m) => fields!(m, m.index(), m.data()),
+        Message::ProgramChange(m) => fields!(m, m.program(), 0),
+        Message::ChannelPressure(m) => fields!(m, m.pressure(), 0),
+        Message::PitchBend(m) => fields!(m, m.lsb(), m.msb()),
+    }
+}
+
 fn zone_number(zone: MpeZone) -> u8 {
     match zone {
         MpeZone::Lower => 0,

@@ -5,7 +5,7 @@ use crate::restatement::{ChannelSettings, Settings, ZoneSettings};
 use zmidi_io::mpe::{MpeLayout, MpeSensitivity, MpeZone};
 use zmidi_io::{Parameter, ParameterChange, ParameterEvent};
 use zmidi_ump::controller::Rpn;
-use zmidi_ump::{Channel, Midi1ChannelVoiceMessage};
+use zmidi_ump::{Channel, Group, Midi1ChannelVoiceMessage};
 
 pub struct Arguments {
     bytes: std::vec::IntoIter<u8>,
@@ -43,6 +43,10 @@ impl Arguments {
 
     pub fn flag(&mut self) -> bool {
         self.byte() != 0
+    }
+
+    pub fn group(&mut self) -> Group {
+        Group::from_bits(self.byte())
     }
 
     pub fn channel(&mut self) -> Channel {
@@ -128,6 +132,29 @@ impl Arguments {
             upper: self.byte(),
             zones: [self.zone_settings(), self.zone_settings()],
             channels: std::array::from_fn(|_| self.channel_settings()),
+        }
+    }
+}
+
+#[cfg(test)]
+mod tests {
+    use super::*;
+
+    /// Document 01's word form is what upstream reads as a message and gives back unchanged, so
+    /// with no reserved bit to clear.
+    #[test]
+    fn the_word_form_is_what_upstream_gives_back() {
+        let tops = (0..=0xFFFFu32).map(|top| top << 16);
+        let limits = [0x00, 0x01, 0x40, 0x7F, 0x80, 0x81, 0xFF];
+        for top in tops {
+            for first in limits {
+                for second in limits {
+                    let word = top | first << 8 | second;
+                    let message = Midi1ChannelVoiceMessage::parse(&[word]);
+                    let unchanged = message.is_some_and(|message| message.into_bits() == word);
+                    assert_eq!(has_word_form(word), unchanged, "the word {word:08X}");
+                }
+            }
         }
     }
 }

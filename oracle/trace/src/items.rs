@@ -9,7 +9,10 @@ use zmidi_io::mpe::{
 };
 use zmidi_io::parameters::{change_message, select_messages, value_messages};
 use zmidi_io::ParameterState;
-use zmidi_ump::{Channel, Midi1ChannelVoiceMessage};
+use zmidi_ump::{
+    Channel, Group, Midi1ChannelPressure, Midi1ChannelVoiceMessage, Midi1ControlChange,
+    Midi1NoteOn, Midi1PitchBend,
+};
 
 /// The length of P, C and S in bytes.
 const P: usize = 3;
@@ -49,12 +52,12 @@ const KINDS: [MpeMessage; 21] = [
 pub fn length(operation: u8) -> Option<usize> {
     Some(match operation {
         0x00 | 0x06 | 0x34 | 0x36 | 0x39 | 0x40 | 0x43 | 0x60 | 0x64 | 0x65 => 0,
-        0x01 | 0x02 | 0x07 | 0x37 | 0x38 | 0x44 | 0x62 | 0x63 => 1,
-        0x03 | 0x04 | 0x05 | 0x10 | 0x15 | 0x42 | 0x51 | 0x52 => 2,
+        0x01 | 0x02 | 0x07 | 0x08 | 0x37 | 0x38 | 0x44 | 0x62 | 0x63 => 1,
+        0x03 | 0x04 | 0x05 | 0x10 | 0x15 | 0x16 | 0x42 | 0x51 | 0x52 => 2,
         0x12..=0x14 => 3,
-        0x11 | 0x21 | 0x35 | 0x50 | 0x54 | 0x61 => 4,
+        0x11 | 0x18 | 0x21 | 0x35 | 0x50 | 0x54 | 0x61 => 4,
         0x20 | 0x53 => 6,
-        0x55 => 7,
+        0x17 | 0x55 => 7,
         0x30 => P + C + 2,
         0x31 => 1 + P,
         0x32 => 1 + C,
@@ -107,7 +110,8 @@ impl States {
     fn plain_answer(&mut self, operation: u8, arguments: &mut Arguments) -> Answer {
         match operation {
             0x00..=0x0F | 0x72 => self.end_item(operation, arguments),
-            0x10..=0x1F => layout_item(operation, arguments),
+            0x10..=0x15 => layout_item(operation, arguments),
+            0x16..=0x1F => word_item(operation, arguments),
             0x20..=0x2F => pitch_item(operation, arguments),
             0x30..=0x33 => parameter_item(operation, arguments),
             0x34..=0x3F => self.parameters_item(operation, arguments),
@@ -122,7 +126,7 @@ impl States {
         let end = &mut self.end;
         match operation {
             0x00 => *end = End::new(),
-            0x01 | 0x02 => return Ok(reply(end.byte(arguments.byte()))),
+            0x01 | 0x02 | 0x08 => return Ok(reply(end.byte(arguments.byte()))),
             0x03 => return set_layout(&mut end.receiver, arguments),
             0x04 => {
                 let channel = arguments.channel();
@@ -243,6 +247,46 @@ fn member_counts(layout: MpeLayout) -> String {
 fn channel_or_none(channel: Option<Channel>) -> Answer {
     let channel = channel.ok_or(Refusal::None)?;
     Ok(channel.index().to_string())
+}
+
+fn word_item(operation: u8, arguments: &mut Arguments) -> Answer {
+    match operation {
+        0x16 => packet_item(arguments),
+        0x17 => made_item(arguments),
+        0x18 => Ok(arguments
+            .message()
+            .map_or_else(|_| "0".into(), |message| answer::fields(&message))),
+        _ => unreachable!("an unknown operation has no length"),
+    }
+}
+
+/// A group or a channel by its packet value or by its number.
+fn packet_item(arguments: &mut Arguments) -> Answer {
+    let (kind, value) = (arguments.byte(), arguments.byte());
+    let index = match kind {
+        0 => Group::new(value)?.index(),
+        1 => Group::from_number(value)?.index(),
+        2 => Channel::new(value)?.index(),
+        3 => Channel::from_number(value)?.index(),
+        _ => return Err(Refusal::OutOfRange),
+    };
+    Ok(index.to_string())
+}
+
+/// A message by its constructor.
+fn made_item(arguments: &mut Arguments) -> Answer {
+    use Midi1ChannelVoiceMessage as Message;
+    let kind = arguments.byte();
+    let (group, channel) = (arguments.group(), arguments.channel());
+    let (first, second) = (arguments.byte(), arguments.byte());
+    let bend = arguments.two();
+    words(&[match kind {
+        0 => Message::ControlChange(Midi1ControlChange::try_new(group, channel, first, second)?),
+        1 => Message::NoteOn(Midi1NoteOn::try_new(group, channel, first, second)?),
+        2 => Message::ChannelPressure(Midi1ChannelPressure::try_new(group, channel, first)?),
+        3 => Message::PitchBend(Midi1PitchBend::try_new(group, channel, bend)?),
+        _ => return Err(Refusal::OutOfRange),
+    }])
 }
 
 fn pitch_item(operation: u8, arguments: &mut Arguments) -> Answer {

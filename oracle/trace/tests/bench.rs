@@ -175,6 +175,88 @@ fn words_need_the_word_form() {
 }
 
 #[test]
+fn groups_and_channels() {
+    for [by_value, by_number] in [["00", "01"], ["02", "03"]] {
+        hold(&[
+            (&format!("16 {by_value} 00"), "0"),
+            (&format!("16 {by_value} 0F"), "15"),
+            (&format!("16 {by_value} 10"), "!1"),
+            (&format!("16 {by_value} FF"), "!1"),
+            (&format!("16 {by_number} 00"), "!1"),
+            (&format!("16 {by_number} 01"), "0"),
+            (&format!("16 {by_number} 10"), "15"),
+            (&format!("16 {by_number} 11"), "!1"),
+            (&format!("16 {by_number} FF"), "!1"),
+        ]);
+    }
+    hold(&[("16 04 00", "!1"), ("16 FF 01", "!1")]);
+}
+
+#[test]
+fn constructors() {
+    // 0x2FBF_4A7F, 0x2091_3C00, 0x20D0_7F00, 0x20E0_0040, 0x20E0_7F7F.
+    hold(&[
+        ("17 00 0F 0F 4A 7F 00 00", "801065599"),
+        ("17 00 1F 2F 4A 7F FF FF", "801065599"),
+        ("17 00 00 00 80 00 00 00", "!1"),
+        ("17 00 00 00 00 80 00 00", "!1"),
+        ("17 01 00 01 3C 00 00 00", "546388992"),
+        ("17 01 00 01 80 00 00 00", "!1"),
+        ("17 01 00 01 00 80 00 00", "!1"),
+        ("17 02 00 00 7F FF FF FF", "550534912"),
+        ("17 02 00 00 80 00 00 00", "!1"),
+        ("17 03 00 00 FF FF 20 00", "551551040"),
+        ("17 03 00 00 00 00 3F FF", "551583615"),
+        ("17 03 00 00 00 00 40 00", "!1"),
+        ("17 04 00 00 00 00 00 00", "!1"),
+        ("17 FF 00 00 00 00 00 00", "!1"),
+    ]);
+}
+
+#[test]
+fn fields_of_words() {
+    hold(&[
+        ("18 20 80 00 00", "1 2 0 8 0 0 0"),
+        ("18 2F 9F 7F 7F", "1 2 15 9 15 127 127"),
+        ("18 25 A1 3C 40", "1 2 5 10 1 60 64"),
+        ("18 20 B2 4A 01", "1 2 0 11 2 74 1"),
+        ("18 20 C3 05 00", "1 2 0 12 3 5 0"),
+        ("18 20 D4 7F 00", "1 2 0 13 4 127 0"),
+        ("18 20 E5 01 40", "1 2 0 14 5 1 64"),
+        ("18 20 C3 05 01", "0"),
+        ("18 20 D4 7F 80", "0"),
+        ("18 20 B2 CA 01", "0"),
+        ("18 20 B2 4A 81", "0"),
+        ("18 10 B2 4A 01", "0"),
+        ("18 30 B2 4A 01", "0"),
+        ("18 20 72 4A 01", "0"),
+        ("18 20 F2 4A 01", "0"),
+    ]);
+}
+
+#[test]
+fn the_three_byte_calls_answer_alike() {
+    // One of them gives each byte, in turn, to the same end.
+    let bytes = "B0 65 00 64 06 06 02 E1 F8 00 60 F7 00 C3 05 06 90 3C 00";
+    let calls = |calls: [&str; 3]| -> String {
+        let calls = calls.into_iter().cycle();
+        let items = bytes.split(' ').zip(calls);
+        items
+            .map(|(byte, call)| format!("{call} {byte}\n"))
+            .collect()
+    };
+    let by_value = answers(&calls(["01", "01", "01"]));
+    for turn in [
+        ["08", "08", "08"],
+        ["01", "02", "08"],
+        ["08", "01", "02"],
+        ["02", "08", "01"],
+    ] {
+        assert_eq!(answers(&calls(turn)), by_value);
+    }
+}
+
+#[test]
 fn what_cannot_be_read_ends_the_run() {
     for (trace, expected) in [
         ("", ""),
@@ -186,6 +268,11 @@ fn what_cannot_be_read_ends_the_run() {
         ("01\t", "?\n"),
         ("01 9", "?\n"),
         ("01", "?\n"),
+        ("08", "?\n"),
+        ("16 00", "?\n"),
+        ("17 00 00 00 00 00 00", "?\n"),
+        ("18 20 B0 00", "?\n"),
+        ("19 00", "?\n"),
         ("53 03 00 00 02 30 41", "?\n"),
         ("00 09 00", "ok\n?\n"),
     ] {
