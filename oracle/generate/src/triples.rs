@@ -212,7 +212,7 @@ fn broken_restatement(g: &mut Generator) {
     bytes[..length as usize].iter().for_each(|b| byte(g, *b));
 }
 
-/// The bytes of a restatement, each by value or lent, with bytes F8 to FF before, between and
+/// The bytes of a restatement, each by one of the byte calls, with bytes F8 to FF before, between and
 /// after them: none, at both ends alone, or from a few to several between each two.
 fn arrival(g: &mut Generator, bytes: &[u8]) -> Vec<Item> {
     let density = g.random.below(5);
