@@ -9,7 +9,7 @@ use mpe_layout::ResetMask;
 use mpe_pitch::MpeSensitivity;
 use mpe_receiver::MpeReceiver;
 use mpe_receiver::Offset;
-use mpe_receiver::Reply;
+use mpe_zones::MpeReply;
 use mpe_zones::MpeEvent;
 use parameter_event::ParameterEvent;
 use parameters::MaybeEvent;
@@ -37,8 +37,8 @@ pub(crate) fn event(line: Line, event: MpeEvent) -> Line {
 // What `receive` answers.
 fn reply(reply: Reply) -> Line {
     match reply {
-        Reply::Received(e) => event(Line::new(), e),
-        Reply::OutOfRange => Line::out_of_range(),
+        MpeReply::Received(e) => event(Line::new(), e),
+        MpeReply::OutOfRange => Line::out_of_range(),
     }
 }
 
