@@ -20,7 +20,7 @@ use Rattle.mpe_sender.specs.Zone.{channelAt, semitonesAt, zoneGroups, groupAt, 
 use Rattle.mpe_sender.proofs.Groups.{manager-lt, groups-length, channel-lt, semitones-le}
 use Rattle.mpe_sender.proofs.Zones.{members-in, lowest-lt}
 use Rattle.settings.specs.Settings.{zoneOf, membersIn, isMono, bendOn, pressureOn, brightnessOn, allowed}
-use Rattle.settings.specs.Messages.{eachChannel, resetOn, resets, announcement, announcements, sensitivities, modes, deselectionOn, deselections, controlsOn, controls, messages, bytesOf, bytes, restatement, oneIfAny, messageCount, byteCount, CountsHold}
+use Rattle.settings.specs.Messages.{eachChannel, resetOn, resets, announcement, announcements, sensitivities, modes, deselectionOn, deselections, brightnessController, controlsOn, controls, messages, bytesOf, bytes, restatement, oneIfAny, messageCount, byteCount, CountsHold}
 use Rattle.settings.specs.declared.Settings.{Settings}
 use Rattle.settings.proofs.Allowed.{allowed-legal, allowed-zone, allowed-channel}
 use Rattle.settings.proofs.Bytes.{control-bytes, group-bytes, append-length, each-bytes, bend-bytes, pressure-bytes}
@@ -173,7 +173,7 @@ controls-bytes s h =
     let f = allowed-channel s h k l in
     let bend = ap length (bend-bytes k (bendOn s k) l (omega (arith, f .0))) in
     let pressure = ap length (pressure-bytes k (pressureOn s k) l (omega (arith, f .1))) in
-    simp length-append (omega (arith, bend, ap length (control-bytes k 74 (brightnessOn s k) l (omega arith) (omega (arith, f .2))), pressure)))
+    simp length-append (omega (arith, bend, ap length (control-bytes k brightnessController (brightnessOn s k) l (omega arith) (omega (arith, f .2))), pressure)))
 
 -- three bytes each, less one for each pressure
 pub byte-count : (s : Settings) → allowed s ≡ true → length (restatement s) ≡ byteCount (s .layout)

@@ -28,7 +28,7 @@ use Rattle.receiving_end.proofs.Parts.{statusOf, two-received, one-received}
 use Rattle.receiving_end.proofs.Receive.{control-received, other-received}
 use Rattle.settings.specs.declared.Settings.{Settings}
 use Rattle.settings.specs.Settings.{bendOn, pressureOn, brightnessOn, allowed}
-use Rattle.settings.specs.Messages.{deselectionOn, deselections, controlsOn, controls, bytes}
+use Rattle.settings.specs.Messages.{deselectionOn, deselections, brightnessController, controlsOn, controls, bytes}
 use Rattle.settings.proofs.Allowed.{allowed-channel}
 use Rattle.settings.proofs.Bytes.{bend-bytes, pressure-bytes}
 use Rattle.settings.proofs.Received.{received-all, received-append, control-all, bytes-formed, each-received}
@@ -159,7 +159,7 @@ module _ (s : Settings) (h : allowed s ≡ true) where
   controls-received e k hk =
       let limits = allowed-channel s h k hk in
       let a = wordOf 0 0xE k (bendOn s k % 2 ^ 7) (bendOn s k / 2 ^ 7) in
-      let b = controlWord k 74 (brightnessOn s k) in
+      let b = controlWord k brightnessController (brightnessOn s k) in
       let c = wordOf 0 0xD k (pressureOn s k) 0 in
       let first = bend-received e k (bendOn s k) hk (omega (arith, limits .0)) in
       received-append e (a ∷ []) (b ∷ c ∷ [])

@@ -58,11 +58,14 @@ deselectionOn k = controlWord k 101 127 ∷ controlWord k 100 127 ∷ []
 abbrev pub deselections : List ℕ
 deselections = eachChannel deselectionOn 16
 
--- F. Pitch Bend, controller 74 and Channel Pressure of a channel
+-- F. Pitch Bend, controller 74 for the brightness, and Channel Pressure of a channel
+abbrev pub brightnessController : ℕ
+brightnessController = 74
+
 abbrev pub controlsOn : Settings → ℕ → List ℕ
 controlsOn s k =
     wordOf 0 0xE k (bendOn s k % 2 ^ 7) (bendOn s k / 2 ^ 7)
-    ∷ controlWord k 74 (brightnessOn s k)
+    ∷ controlWord k brightnessController (brightnessOn s k)
     ∷ wordOf 0 0xD k (pressureOn s k) 0
     ∷ []
 
