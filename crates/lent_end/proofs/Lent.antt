@@ -4,33 +4,33 @@ use lib.Dec.{T}
 use Rattle.lent_end.proofs.Item.{taken, untaken}
 use Prim.Native.Nat.{ℕ, _%_, _^_, _<_}
 use mathlib.Core.Path.{_≡_, refl, ap, ap₂, sym, _∙_}
-use mathlib.Core.Bool.{Bool, true, false, not}
+use mathlib.Core.Bool.{Bool, true, false, not, true≢false}
 use mathlib.Core.List.{List}
 use native.Mathlib.Omega.{arith}
 use lib.Dec.{eqb}
 use lib.ListN.{set}
 use lib.Seq.{set-getD}
-use borrow.Author.Tests.{eqb-true, eqb-false}
+use borrow.Author.Tests.{eqb-true, eqb-false, ne-eqb}
 use Rattle.ump.specs.Choice.{if_then_else_}
 use Rattle.ump.specs.Word.{opcodeOf, channelOf, firstOf, secondOf, wordForm, bendOf}
 use Rattle.ump.proofs.Cases.{by-test, of-both}
 use Rattle.parameters.specs.declared.ParameterUpdate.{ParameterUpdate}
 use Rattle.parameters.specs.declared.ParameterState.{ParameterState}
-use Rattle.parameters.specs.declared.MaybeEvent.the-variants.{NoEvent}
+use Rattle.parameters.specs.declared.MaybeEvent.{MaybeEvent}
+use Rattle.parameters.specs.declared.MaybeEvent.the-variants.{NoEvent, Event}
 use Rattle.parameters.specs.State as parameter
+use Rattle.mpe_layout.specs.declared.MpeZone.{MpeZone}
 use Rattle.mpe_layout.specs.declared.MpeRole.{MpeRole}
 use Rattle.mpe_layout.specs.declared.MpeRole.the-variants as role
 use Rattle.mpe_receiver.specs.declared.MpeReceiver.{MpeReceiver}
 use Rattle.mpe_zones.specs.declared.MpeEvent.the-variants.{Ignored}
-use Rattle.mpe_zones.specs.declared.ZonesUpdate.{ZonesUpdate}
-use Rattle.mpe_zones.specs.declared.Zones.{Zones}
 use Rattle.mpe_zones.specs.Zones.{roleHeld}
-use Rattle.mpe_zones.specs.Update.{decoded, onMember, plainEvent, voiceOf, updatedAs, changesBy}
+use Rattle.mpe_zones.specs.Update.{onMember, plainEvent}
+use Rattle.mpe_zones.proofs.Kept.{NoMode, plain-update}
 use Rattle.mpe_receiver.specs.State.{withBends, withPressures, withBrightnesses, zonesOf}
-use Rattle.mpe_receiver.specs.Receive.{stored, receivedByFields, settlesBy, settled}
+use Rattle.mpe_receiver.specs.Receive.{stored, receivedByFields}
 use Rattle.mpe_receiver.specs.Receive as receiver
 use Rattle.mpe_receiver.proofs.Parts.{receiver-quiet}
-use Rattle.mpe_receiver.proofs.Settle.{put, lit, unsettled}
 use Rattle.byte_reader.specs.declared.Reader.{Reader}
 use Rattle.byte_reader.specs.declared.Read.{Read}
 use Rattle.byte_reader.specs.declared.Read.the-variants as read
@@ -40,19 +40,17 @@ use Rattle.receiving_end.specs.declared.end.Reply.{Reply}
 use Rattle.receiving_end.specs.declared.end.Reply.the-variants.{Quiet, Message}
 use Rattle.receiving_end.specs.declared.end.Stepped.{Stepped}
 use Rattle.lent_end.specs.declared.Taken.{Taken}
-use Rattle.lent_end.specs.declared.Placed.{Placed}
-use Rattle.lent_end.specs.declared.Controlled.{Controlled}
-use Rattle.receiving_end.specs.End.{blankState, withReader, withReceiver, withParameter, parameterAt, stepped, messageAt, messageStep, answerStep, stepOf, stepReply, stepEnd}
-use Rattle.lent_end.specs.Lent.{readerOnly, wordTaken, readTaken, takenOf, placedOf, voiceReply, toldOf, controlledOf, voicedEnd, brightEnd, controlledAt, controlledEnd, toldEnd, toldReply}
+use Rattle.receiving_end.specs.End.{blankState, withReader, withReceiver, withParameter, parameterAt, parameterEventAt, stepped, messageAt, messageStep, answerStep, stepOf, stepReply, stepEnd}
+use Rattle.lent_end.specs.Lent.{readerOnly, wordTaken, readTaken, takenOf, eventOnMember, eventByRole, eventReply, settlesWith, controlledOf, brightnessEnd, settledEnd, settledReply, updatedEnd, updatedReply, controlEnd, controlReply, messageEnd, messageReply}
 use Rattle.lent_end.proofs.Words.{Formed, Fine, read-fine}
 
 -- what a taken byte makes of an end that has the reader after it
 abbrev pub takenEnd : End → Taken → End
-takenEnd e t = if t .message then toldEnd e t else e
+takenEnd e t = if t .message then messageEnd e t else e
 
 -- and its reply
 abbrev pub takenReply : End → Taken → Reply
-takenReply e t = if t .message then toldReply e t else t .reply
+takenReply e t = if t .message then messageReply e t else t .reply
 
 abbrev pub takenStep : End → Taken → Stepped
 takenStep e t = stepped (takenEnd e t) (takenReply e t)
@@ -77,39 +75,50 @@ ignored-step e w f =
     (ap (λ l. stepped (withParameters e l) (Message w Ignored)) (sym (set-getD (e .parameters) (channelOf w) blankState)))
 
 -- one that is reaches the parameters, and then the receiver with their event
-abbrev heardStep : End → ℕ → ParameterUpdate → Stepped
-heardStep e w h =
-    let got = receiver.receivedByWord (e .receiver) (h .event) w in
-    stepped (withReceiver (withParameter e (channelOf w) (h .state)) (got .receiver)) (Message w (got .event))
+abbrev updateStep : End → ℕ → ParameterUpdate → Stepped
+updateStep e w u =
+    let got = receiver.receivedByWord (e .receiver) (u .event) w in
+    stepped (withReceiver (withParameter e (channelOf w) (u .state)) (got .receiver)) (Message w (got .event))
 
-formed-step : (e : End) (w : ℕ) → wordForm w ≡ true → messageStep e w ≡ heardStep e w (parameter.updateByWord (parameterAt e (channelOf w)) w)
+formed-step : (e : End) (w : ℕ) → wordForm w ≡ true → messageStep e w ≡ updateStep e w (parameter.updateByWord (parameterAt e (channelOf w)) w)
 unfolding messageAt
 formed-step e w f = rw f
 
--- the receiver settled as a whole, where that alters it
-receiver-end : (e : End) (s : Bool) (x : MpeReceiver) → (s ≡ false → e .receiver ≡ x) → (if s then withReceiver e x else e) ≡ withReceiver e x
-receiver-end e true x q = refl
-receiver-end e false x q = ap (withReceiver e) (q refl)
-
--- the data bytes of a message that is no control change do not decide its event
-voice-event : (z : Zones) (channel : ℕ) (ro : MpeRole) (o a : ℕ) → eqb o 0xB ≡ false → plainEvent z channel ro o a ≡ voiceOf z ro o
+-- only the mode messages ask whether a member is the lowest
+any-member : (zone : MpeZone) (mono lowest : Bool) (o a : ℕ) → NoMode o a → onMember zone mono lowest o a ≡ eventOnMember zone mono o a
 unfolding onMember
-voice-event z channel role.NoZone o a other = refl
-voice-event z channel (role.Manager zone) o a other = refl
-voice-event z channel (role.Member zone) o a other = rw other
+any-member zone mono lowest o a n =
+    by-test (eqb o 0xB)
+    (λ g. let m = n (eqb-true o 0xB g) in rw (g, ne-eqb a 126 (m .0), ne-eqb a 127 (m .1)))
+    (λ g. rw g)
 
--- nor does that of a brightness stand apart
-bright-event : (z : Zones) (channel : ℕ) (ro : MpeRole) (o a : ℕ) → o ≡ 0xB → a ≡ 74 → plainEvent z channel ro o a ≡ voiceOf z ro o
-unfolding onMember
-bright-event z channel role.NoZone o a control bright = refl
-bright-event z channel (role.Manager zone) o a control bright = refl
-bright-event z channel (role.Member zone) o a control bright = rw (control, bright)
+module _ (r : MpeReceiver) (w : ℕ) (n : NoMode (opcodeOf w) (firstOf w)) where
+  by-role : (ro : MpeRole) → plainEvent (zonesOf r) (channelOf w) ro (opcodeOf w) (firstOf w) ≡ eventByRole r ro w
+  by-role role.NoZone = refl
+  by-role (role.Manager zone) = refl
+  by-role (role.Member zone) = any-member zone _ _ (opcodeOf w) (firstOf w) n
 
--- it tells of no change
-bright-still : (z : Zones) (ro : MpeRole) → changesBy (voiceOf z ro 0xB) ≡ false
-bright-still z role.NoZone = refl
-bright-still z (role.Manager zone) = refl
-bright-still z (role.Member zone) = refl
+  -- the event of a message that sets no mode, where the parameters gave none
+  quiet-event : receiver.receivedByWord r NoEvent w .event ≡ eventByRole r (roleHeld (r .layout) (channelOf w)) w
+  unfolding receivedByFields
+  quiet-event =
+      ap (λ t. t .event) (plain-update (zonesOf r) (opcodeOf w) (channelOf w) (firstOf w)) ∙ by-role (roleHeld (r .layout) (channelOf w))
+
+-- a control change that settles nothing has no event of the parameters, and is not 121, 126 or 127
+record Unsettled (event : MaybeEvent) (a : ℕ) : Type 0 where
+  none : event ≡ NoEvent
+  not-121 : eqb a 121 ≡ false
+  not-126 : eqb a 126 ≡ false
+  not-127 : eqb a 127 ≡ false
+
+unsettled : (event : MaybeEvent) (a : ℕ) → settlesWith event a ≡ false → Unsettled event a
+unsettled (Event e) a = λ f. absurd (true≢false f)
+unsettled NoEvent a =
+    by-test (eqb a 121)
+    (λ x. rw x (λ f. absurd (true≢false f)))
+    (λ x. by-test (eqb a 126)
+    (λ y. rw (x, y) (λ f. absurd (true≢false f)))
+    (λ y. rw (x, y) (λ f. record { none = refl; not-121 = x; not-126 = y; not-127 = f })))
 
 -- a message of a channel, as the lent call takes it
 abbrev messageTaken : Reader → ℕ → Bool → Taken
@@ -126,7 +135,7 @@ messageTaken r w control =
       brightens = eqb (firstOf w) 74;
     }
 
--- a word of the form of a message, heard by an end
+-- a word of the form of a message reaches an end
 module _ (e : End) (n : Reader) (w : ℕ) (formed : wordForm w ≡ true) where
   abbrev k : ℕ
   k = channelOf w
@@ -137,137 +146,115 @@ module _ (e : End) (n : Reader) (w : ℕ) (formed : wordForm w ≡ true) where
   abbrev r : MpeReceiver
   r = e .receiver
 
-  abbrev at : Placed
-  at = placedOf r w
+  -- its control stored
+  abbrev put : MpeReceiver
+  put = stored r (opcodeOf w) k (firstOf w) (secondOf w)
 
   -- the channel's parameters written over themselves
   kept : withParameter e k p ≡ e
   kept = ap (withParameters e) (set-getD (e .parameters) k blankState)
 
+  -- a message that sets no mode and for which the parameters give no event is stored, and no more
+  quiet-step : (s : ParameterState) → parameter.updateByWord p w ≡ parameter.parameterUpdate s NoEvent → NoMode (opcodeOf w) (firstOf w)
+      → messageStep e w ≡ stepped (withReceiver (withParameter e k s) put) (eventReply r w)
+  quiet-step s only m =
+      formed-step e w formed
+      ∙ ap (updateStep e w) only
+      ∙ ap₂ stepped
+      (ap (withReceiver (withParameter e k s)) (receiver-quiet r (opcodeOf w) k (firstOf w) (secondOf w) m))
+      (ap (Message w) (quiet-event r w m))
+
+  -- one that the parameters do not keep either
+  stored-step : parameter.updateByWord p w ≡ parameter.parameterUpdate p NoEvent → NoMode (opcodeOf w) (firstOf w) → messageStep e w ≡ stepped (withReceiver e put) (eventReply r w)
+  stored-step only m = quiet-step p only m ∙ ap (λ x. stepped (withReceiver x put) (eventReply r w)) kept
+
   module _ (control : opcodeOf w ≡ 0xB) where
-    -- what the channel's parameters make of it, and what the zones are told
-    abbrev h : ParameterUpdate
-    h = parameter.controlled p (firstOf w) (secondOf w)
-
-    abbrev t : ZonesUpdate
-    t = toldOf p at w
-
-    abbrev whole : MpeReceiver
-    whole = settled r (t .zones) w (t .event)
-
-    abbrev controlAfter : Stepped
-    controlAfter = stepped (withReceiver (withParameter e k (h .state)) whole) (Message w (t .event))
-
-    control-parts : heardStep e w h ≡ controlAfter
-    unfolding receivedByFields
-    control-parts = refl
-
-    control-heard : messageStep e w ≡ controlAfter
-    control-heard =
-        let only : parameter.updateByWord p w ≡ h = rw control in
-        formed-step e w formed ∙ (ap (heardStep e w) only ∙ control-parts)
-
-    -- where nothing is settled, a brightness may yet be stored
-    unsettled-here : settlesBy w (t .event) ≡ false → (if eqb (firstOf w) 74 then lit w r else r) ≡ whole
-    unsettled-here = unsettled w control r k (at .role) (at .event) (h .event)
-
-    -- the parts in place, by the channel's index
-    abbrev controlIn : ℕ → Controlled
-    controlIn j = controlledOf (parameterAt e j) at w
-
-    abbrev inPlace : ℕ → End
-    inPlace j =
-        let x = withParameter e j (controlIn j .state) in
-        if controlIn j .settles then withReceiver x (settled r (controlIn j .zones) w (controlIn j .event)) else x
-
     module _ (dark : eqb (firstOf w) 74 ≡ false) where
-      control-end : controlledEnd e w k at ≡ controlAfter .end
-      control-end =
-          ap inPlace (channel-mod w)
-          ∙ receiver-end (withParameter e k (h .state)) (settlesBy w (t .event)) whole
-          (λ s. sym (ap (λ (b : Bool). if b then lit w r else r) dark) ∙ unsettled-here s)
+      -- the event of the parameters, and the parameters after it
+      abbrev event : MaybeEvent
+      event = parameterEventAt p w
 
-      control-reply : controlledAt e w k at .reply ≡ controlAfter .reply
-      control-reply = ap (λ j. controlIn j .reply) (channel-mod w)
+      abbrev after : End
+      after = withParameter e k (parameter.parameterAfter p w)
 
-      control-step : stepped (controlledEnd e w k at) (controlledAt e w k at .reply) ≡ messageStep e w
-      control-step = ap₂ stepped control-end control-reply ∙ sym control-heard
+      settled-step : stepped (settledEnd after w event) (settledReply e w event) ≡ messageStep e w
+      unfolding messageAt
+      settled-step = refl
+
+      module _ (u : Unsettled event (firstOf w)) where
+        -- a control change other than 74 and 121 is not stored
+        not-put : put ≡ r
+        unfolding stored
+        not-put = rw (control, dark, u .not-121)
+
+        only : parameter.updateByWord p w ≡ parameter.parameterUpdate (parameter.updateByWord p w .state) NoEvent
+        only =
+            let none : parameter.updateByWord p w .event ≡ NoEvent = sym (rw formed) ∙ u .none in
+            ap (parameter.parameterUpdate (parameter.updateByWord p w .state)) none
+
+        unsettled-step : stepped after (eventReply r w) ≡ messageStep e w
+        unsettled-step =
+            let s = parameter.updateByWord p w .state in
+            let same : parameter.parameterAfter p w ≡ s = rw formed in
+            ap (λ x. stepped (withParameter e k x) (eventReply r w)) same
+            ∙ ap (λ x. stepped (withReceiver (withParameter e k s) x) (eventReply r w)) (sym not-put)
+            ∙ sym (quiet-step s only (λ q. (eqb-false (firstOf w) 126 (u .not-126), eqb-false (firstOf w) 127 (u .not-127))))
+
+      -- by the channel's index, which the lent call takes modulo 16
+      abbrev controlIn : ℕ → Stepped
+      controlIn j =
+          let c = controlledOf (parameterAt e j) w in stepped (updatedEnd (withParameter e j (c .state)) w c) (updatedReply e w c)
+
+      control-step : stepped (controlEnd e (messageTaken n w true)) (controlReply e (messageTaken n w true)) ≡ messageStep e w
+      control-step =
+          ap controlIn (channel-mod w)
+          ∙ by-value (λ b. stepped (if b then settledEnd after w event else after) (if b then settledReply e w event else eventReply r w) ≡ messageStep e w)
+          (settlesWith event (firstOf w))
+          (λ b. settled-step)
+          (λ b. unsettled-step (unsettled event (firstOf w) b))
 
     module _ (bright : firstOf w ≡ 74) where
-      -- the parameters keep what they hold, and say nothing
-      bright-heard : h ≡ parameter.parameterUpdate p NoEvent
+      -- the parameters keep what they hold, and give no event
+      bright-kept : parameter.updateByWord p w ≡ parameter.parameterUpdate p NoEvent
       unfolding parameter.controlled parameter.numberStored
-      bright-heard = rw bright
+      bright-kept = rw (control, bright)
 
-      bright-told : t .event ≡ voiceOf (zonesOf r) (at .role) (opcodeOf w)
-      bright-told =
-          let silent : updatedAs (zonesOf r) k (at .role) (at .event) (decoded (opcodeOf w) NoEvent) (firstOf w) .event ≡ at .event = rw control in
-          ap (λ x. updatedAs (zonesOf r) k (at .role) (at .event) (decoded (opcodeOf w) (x .event)) (firstOf w) .event) bright-heard
-          ∙ silent
-          ∙ bright-event (zonesOf r) k (at .role) (opcodeOf w) (firstOf w) control bright
+      bright-put : withBrightnesses r (set (r .brightness) k (secondOf w)) ≡ put
+      unfolding stored
+      bright-put = rw (control, bright)
 
-      bright-said : voiceReply r w ≡ Message w (t .event)
-      bright-said = ap (Message w) (sym bright-told)
-
-      bright-lit : lit w r ≡ whole
-      bright-lit =
-          let seen : eqb (firstOf w) 74 ≡ true = rw bright in
-          let still : settlesBy w (voiceOf (zonesOf r) (at .role) (opcodeOf w)) ≡ false = rw (bright, control) (bright-still (zonesOf r) (at .role)) in
-          sym (ap (λ (b : Bool). if b then lit w r else r) seen) ∙ unsettled-here (ap (settlesBy w) bright-told ∙ still)
-
-      bright-end : brightEnd e (messageTaken n w true) ≡ controlAfter .end
-      bright-end =
-          ap (λ j. withReceiver e (withBrightnesses r (set (r .brightness) j (secondOf w)))) (channel-mod w)
-          ∙ ap₂ withReceiver (sym (ap (λ x. withParameter e k (x .state)) bright-heard ∙ kept)) bright-lit
-
-      bright-step : stepped (brightEnd e (messageTaken n w true)) (voiceReply r w) ≡ messageStep e w
-      bright-step = ap₂ stepped bright-end bright-said ∙ sym control-heard
+      brightness-step : stepped (brightnessEnd e (messageTaken n w true)) (eventReply r w) ≡ messageStep e w
+      brightness-step =
+          ap (λ j. stepped (withReceiver e (withBrightnesses r (set (r .brightness) j (secondOf w)))) (eventReply r w)) (channel-mod w)
+          ∙ ap (λ x. stepped (withReceiver e x) (eventReply r w)) bright-put
+          ∙ sym (stored-step bright-kept (λ q. ((λ x. let z : 74 ≡ 126 = sym bright ∙ x in omega arith), (λ x. let z : 74 ≡ 127 = sym bright ∙ x in omega arith))))
 
     change-step : takenStep e (messageTaken n w true) ≡ messageStep e w
     change-step =
-        by-value (λ b. stepped (if b then brightEnd e (messageTaken n w true) else controlledEnd e w k at) (if b then voiceReply r w else controlledAt e w k at .reply) ≡ messageStep e w)
+        by-value (λ b. stepped (if b then brightnessEnd e (messageTaken n w true) else controlEnd e (messageTaken n w true)) (if b then eventReply r w else controlReply e (messageTaken n w true)) ≡ messageStep e w)
         (eqb (firstOf w) 74)
-        (λ b. bright-step (eqb-true (firstOf w) 74 b))
+        (λ b. brightness-step (eqb-true (firstOf w) 74 b))
         (λ b. control-step b)
 
   module _ (other : eqb (opcodeOf w) 0xB ≡ false) where
-    voice-said : voiceReply r w ≡ Message w (at .event)
-    voice-said = ap (Message w) (sym (voice-event (zonesOf r) k (roleHeld (r .layout) k) (opcodeOf w) (firstOf w) other))
-
-    abbrev voiceAfter : Stepped
-    voiceAfter = stepped (withReceiver e (put w r)) (Message w (at .event))
-
-    -- the parameters keep what they hold, and the receiver stores the message and no more
-    voice-heard : messageStep e w ≡ voiceAfter
-    unfolding receivedByFields
-    voice-heard =
-        let only : parameter.updateByWord p w ≡ parameter.parameterUpdate p NoEvent = rw other in
-        let m = eqb-false (opcodeOf w) 0xB other in
-        let stores : receiver.receivedByWord r NoEvent w .receiver ≡ put w r =
-        receiver-quiet r (opcodeOf w) k (firstOf w) (secondOf w) (λ q. absurd (m q)) in
-        let plain : receiver.receivedByWord r NoEvent w .event ≡ at .event = rw other in
-        formed-step e w formed
-        ∙ ap (heardStep e w) only
-        ∙ ap₂ stepped (ap₂ withReceiver kept stores) (ap (Message w) plain)
-
     -- a bend or a pressure in place, by the channel's index
-    abbrev voiceIn : ℕ → End
-    voiceIn j =
+    abbrev storedIn : ℕ → End
+    storedIn j =
         if eqb (opcodeOf w) 0xE then withReceiver e (withBends r (set (r .«pitch_bend») j (bendOf w))) else
         if eqb (opcodeOf w) 0xD then withReceiver e (withPressures r (set (r .pressure) j (firstOf w))) else e
 
-    voice-put : voiceIn k ≡ withReceiver e (put w r)
+    stored-put : storedIn k ≡ withReceiver e put
     unfolding stored
-    voice-put =
+    stored-put =
         by-test (eqb (opcodeOf w) 0xE)
         (λ x. rw x)
         (λ x. by-test (eqb (opcodeOf w) 0xD) (λ y. rw (x, y)) (λ y. rw (x, y, other)))
 
-    voice-end : voicedEnd e (messageTaken n w false) ≡ voiceAfter .end
-    voice-end = ap voiceIn (channel-mod w) ∙ voice-put
-
-    voice-step : takenStep e (messageTaken n w false) ≡ messageStep e w
-    voice-step = ap₂ stepped voice-end voice-said ∙ sym voice-heard
+    other-step : takenStep e (messageTaken n w false) ≡ messageStep e w
+    other-step =
+        let only : parameter.updateByWord p w ≡ parameter.parameterUpdate p NoEvent = rw other in
+        let m = eqb-false (opcodeOf w) 0xB other in
+        ap (λ x. stepped x (eventReply r w)) (ap storedIn (channel-mod w) ∙ stored-put) ∙ sym (stored-step only (λ q. absurd (m q)))
 
 -- a word of the reader, by its opcode
 module _ (e : End) (r : Reader) (w : ℕ) where
@@ -275,7 +262,7 @@ module _ (e : End) (r : Reader) (w : ℕ) where
   message-step formed =
       by-value (λ c. takenStep e (messageTaken r w c) ≡ messageStep e w) (eqb (opcodeOf w) 0xB)
       (λ c. change-step e r w formed (eqb-true (opcodeOf w) 0xB c))
-      (λ c. voice-step e r w formed c)
+      (λ c. other-step e r w formed c)
 
   word-step : Formed w → takenStep e (wordTaken r w) ≡ messageStep e w
   word-step f =
@@ -311,17 +298,17 @@ pub lent-is-step : (e : End) (b : ℕ) → e .reader .status < 2 ^ 8
 lent-is-step e b h = let p = byte-step e b h in (ap (λ s. s .reply) p, ap (λ s. s .end) p)
 
 -- what a byte is to the lent call, and the two ways on from there
-pub told-right : (e : End) (b : ℕ) (t : Taken) → t ≡ takenOf (e .reader) b → T (t .message) → e .reader .status < 2 ^ 8
-    → {r : Reply} {x : End} → (r ≡ toldReply (withReader e (t .reader)) t) × (x ≡ toldEnd (withReader e (t .reader)) t) → (r ≡ stepReply e b) × (x ≡ stepEnd e b)
-told-right e b t is m lt {r} {x} p =
+pub message-right : (e : End) (b : ℕ) (t : Taken) → t ≡ takenOf (e .reader) b → T (t .message) → e .reader .status < 2 ^ 8
+    → {r : Reply} {x : End} → (r ≡ messageReply (withReader e (t .reader)) t) × (x ≡ messageEnd (withReader e (t .reader)) t) → (r ≡ stepReply e b) × (x ≡ stepEnd e b)
+message-right e b t is m lt {r} {x} p =
     let s = lent-is-step e b lt in (
-      p .0 ∙ sym (taken (t .message) (toldReply (withReader e (t .reader)) t) (t .reply) m) ∙ ap (λ y. takenReply (withReader e (y .reader)) y) is ∙ s .0,
-      p .1 ∙ sym (taken (t .message) (toldEnd (withReader e (t .reader)) t) (withReader e (t .reader)) m) ∙ ap (λ y. takenEnd (withReader e (y .reader)) y) is ∙ s .1,
+      p .0 ∙ sym (taken (t .message) (messageReply (withReader e (t .reader)) t) (t .reply) m) ∙ ap (λ y. takenReply (withReader e (y .reader)) y) is ∙ s .0,
+      p .1 ∙ sym (taken (t .message) (messageEnd (withReader e (t .reader)) t) (withReader e (t .reader)) m) ∙ ap (λ y. takenEnd (withReader e (y .reader)) y) is ∙ s .1,
     )
 
-pub quiet-right : (e : End) (b : ℕ) (t : Taken) → t ≡ takenOf (e .reader) b → T (not (t .message)) → e .reader .status < 2 ^ 8 → (t .reply ≡ stepReply e b) × (withReader e (t .reader) ≡ stepEnd e b)
-quiet-right e b t is m lt =
+pub reader-right : (e : End) (b : ℕ) (t : Taken) → t ≡ takenOf (e .reader) b → T (not (t .message)) → e .reader .status < 2 ^ 8 → (t .reply ≡ stepReply e b) × (withReader e (t .reader) ≡ stepEnd e b)
+reader-right e b t is m lt =
     let s = lent-is-step e b lt in (
-      sym (untaken (t .message) (toldReply (withReader e (t .reader)) t) (t .reply) m) ∙ ap (λ y. takenReply (withReader e (y .reader)) y) is ∙ s .0,
-      sym (untaken (t .message) (toldEnd (withReader e (t .reader)) t) (withReader e (t .reader)) m) ∙ ap (λ y. takenEnd (withReader e (y .reader)) y) is ∙ s .1,
+      sym (untaken (t .message) (messageReply (withReader e (t .reader)) t) (t .reply) m) ∙ ap (λ y. takenReply (withReader e (y .reader)) y) is ∙ s .0,
+      sym (untaken (t .message) (messageEnd (withReader e (t .reader)) t) (withReader e (t .reader)) m) ∙ ap (λ y. takenEnd (withReader e (y .reader)) y) is ∙ s .1,
     )

@@ -1,6 +1,7 @@
 -- Functions of a lent end and a message, each of which passes the borrow on for good.
 --     spec, meets       the contract of such a function, and that its code meets it, from a walk
 --     passes            a call of another such function
+--     gives             a call by value that finds something of a receiver and a word
 --     onward            one that finds something of the receiver and the word, by a call of values, and passes it on with the message
 -- Assumes `Given`.
 use mathlib.Core.Path.{_≡_, refl, sym, subst}
@@ -43,7 +44,7 @@ use Rattle.receiving_end.specs.declared.end.Reply.{Reply}
 use Rattle.mpe_receiver.specs.declared.MpeReceiver.{MpeReceiver}
 use Rattle.lent_end.specs.declared.Taken.{Taken}
 use Rattle.lent_end.proofs.Item.{of-raw}
-use Rattle.lent_end.proofs.Walk.{Typed, member, Passes, Gives, passes-since, told}
+use Rattle.lent_end.proofs.Walk.{Typed, member, Passes, Gives, passes-since, answer-known}
 use Rattle.lent_end.proofs.Lending as L
 use Rattle.lent_end.proofs.Lending.{end-val}
 use Rattle.receiving_end.proofs.end.End as T
@@ -58,7 +59,7 @@ use Rattle.lent_end.proofs.Taken.Laws as Tk′
 abbrev pub taken-val : Taken → Val
 taken-val = LL.val Tk.the-type Tk′.the-laws
 
-abbrev receiver-val : MpeReceiver → Val
+abbrev pub receiver-val : MpeReceiver → Val
 receiver-val = LL.val Rv.the-type Rv′.the-laws
 
 -- a lent end and a message
@@ -134,7 +135,7 @@ module _ {M : Type 1} (𝓤 : URA M) (H : Heap 𝓤) (A : Atoms 𝓤) (W : Given
     abbrev pub lending : SProp 𝓤
     lending = mean 𝓤 H A (L.lends 𝓤 H A W κ q b o γ h)
 
-    exits : (e : End) (r : Reply) (v : Val) → Says h t r e → ent 𝓤 (L.Left 𝓤 H A W κ q b o γ e r v) (Post v)
+    pub exits : (e : End) (r : Reply) (v : Val) → Says h t r e → ent 𝓤 (L.Left 𝓤 H A W κ q b o γ e r v) (Post v)
     exits e r v right =
         qed W (‵ (flft κ q) ∷ ‵ (fres γ (T.the-row .coded .code e)) ∷ ‵ (R.the-row .own r (v ∷ [])) ∷ []) ∵
         suffices ! _ (ends-at 𝓤 H A ended stayed (clauses 𝓤 H A Says) W (((κ, tt), (q, tt), tt, x, at), tt) v r (e, (tt, tt)) (tt, (tt, tt))) $ says ! right $ nothing ! $ move ! (1 ∷ 0 ∷ []) $ join ! $
@@ -222,13 +223,8 @@ module _ {M : Type 1} (𝓤 : URA M) (H : Heap 𝓤) (A : Atoms 𝓤) (W : Given
       calls-from ! fm (raw ((nexts was (known .1)) .Ready)) _ ((nexts was (known .1)) .Q) ((nexts was (known .1)) .met) (and-then ! (load ! (from ! (stop !)) (look ! 1 refl)) (and-then ! (load ! (from ! (stop !)) (look ! 7 refl)) (and-then ! (load ! (from ! (stop !)) (look ! 3 refl)) (no-more !)))) (λ u. use1 W (later (given (Typed σR u) (raw (Post u)))) ((nexts was (known .1)) .answered u) $ await ! tt $ learn ! (λ typed.
       land ! (from ! (stop !)) (init ! 11 refl typed) $ returns ! (look ! 11 refl) $ forget ! 1 refl $ forget ! 3 refl $ forget ! 5 refl $ forget ! 7 refl $ forget ! 9 refl $ forget ! 11 refl $ move ! (11 ∷ 12 ∷ 9 ∷ 10 ∷ 7 ∷ 8 ∷ 5 ∷ 6 ∷ 3 ∷ 4 ∷ 1 ∷ 2 ∷ []) $ free1 ! $ free1 ! $ free1 ! $ free1 ! $ free1 ! $ free1 ! $ free0 ! $ done !)))))))))))
 
--- What is found is of the type Y, whose machine values are of the type σY.
-module _ {M : Type 1} (𝓤 : URA M) (H : Heap 𝓤) (A : Atoms 𝓤) (W : Given 𝓤 H A) (find next : Name)
-    (Y : RattleType) (σY : S.Ty) (val : Y .Denot → Val) (tells : Tells Y (Is Y) (λ y. val y ∷ [])) (makes : Makes 𝓤 H A Y (Is Y)) (typed : (y : Y .Denot) → Is Y y (val y ∷ []) → Typed σY (val y))
-    (f : MpeReceiver → ℕ → Y .Denot) (Then : End → Taken → Y .Denot → Reply → End → Type 0) where
-  abbrev pub Says : End → Taken → Reply → End → Type 0
-  Says h t = Then h t (f (h .receiver) (t .word))
-
+-- A call by value that finds something of a receiver and a word.
+module _ {M : Type 1} (𝓤 : URA M) (H : Heap 𝓤) (A : Atoms 𝓤) (W : Given 𝓤 H A) (find : Name) (Y : RattleType) (val : Y .Denot → Val) (tells : Tells Y (Is Y) (λ y. val y ∷ [])) (f : MpeReceiver → ℕ → Y .Denot) where
   found-of : (s : MpeReceiver) (w : ℕ) (y : Y .Denot) → ent 𝓤 (ensured 𝓤 H A (ended-of Y) (clauses-of 𝓤 H A Y f) tt (s, (w, tt)) tt y) (fact 𝓤 (y ≡ f s w))
   found-of s w y = exE 𝓤 _ (λ ws. snd∗ 𝓤 (sem 𝓤 H A (lasts (ended-of Y) tt (s, (w, tt)) ws)) (fact 𝓤 (y ≡ f s w)))
 
@@ -236,7 +232,7 @@ module _ {M : Type 1} (𝓤 : URA M) (H : Heap 𝓤) (A : Atoms 𝓤) (W : Given
     abbrev of-to : Finds 𝓤 H A Y f .Ghost
     of-to = ((tt, tt, tt, (s, (w, tt)), (receiver-val s ∷ [], (vint w32 w ∷ [], tt))), tt)
 
-    gives : Is Rv.the-row s (receiver-val s ∷ []) → w < 2 ^ 32 → Gives H C find (receiver-val s ∷ vint w32 w ∷ []) (val (f s w)) (Is Y (f s w) (val (f s w) ∷ []))
+    pub gives : Is Rv.the-row s (receiver-val s ∷ []) → w < 2 ^ 32 → Gives H C find (receiver-val s ∷ vint w32 w ∷ []) (val (f s w)) (Is Y (f s w) (val (f s w) ∷ []))
     gives s-is w-fits = record {
       Ready = Finds 𝓤 H A Y f .pre of-to;
       Q = Finds 𝓤 H A Y f .post of-to;
@@ -245,8 +241,15 @@ module _ {M : Type 1} (𝓤 : URA M) (H : Heap 𝓤) (A : Atoms 𝓤) (W : Given
       answered = λ u. qed W (raw (Finds 𝓤 H A Y f .post of-to u) ∷ []) ∵ updating ! $
           use1 W (later (some (λ (y : Y .Denot). (‵ ftrue ⊛ ‵ (Y .own y (u ∷ []))) ⊛ raw (ensured 𝓤 H A (ended-of Y) (clauses-of 𝓤 H A Y f) tt (s, (w, tt)) tt y)))) (id⊢ 𝓤 _) $ await ! tt $ pick ! (λ y.
           split ! $ move ! (1 ∷ []) $ use1 W (raw (fact 𝓤 (y ≡ f s w))) (found-of s w y) $ heard ! (y ≡ f s w) (λ right. split ! $ drop ! $
-          peeks ! Y (Is Y) (shows 𝓤 H A Y) y (u ∷ []) (λ is. drop ! $ now ! $ check ! (told Y (λ z. val z ∷ []) tells y (f s w) u right is) $ done !)));
+          peeks ! Y (Is Y) (shows 𝓤 H A Y) y (u ∷ []) (λ is. drop ! $ now ! $ check ! (answer-known Y (λ z. val z ∷ []) tells y (f s w) u right is) $ done !)));
     }
+
+-- What is found is of the type Y, whose machine values are of the type σY.
+module _ {M : Type 1} (𝓤 : URA M) (H : Heap 𝓤) (A : Atoms 𝓤) (W : Given 𝓤 H A) (find next : Name)
+    (Y : RattleType) (σY : S.Ty) (val : Y .Denot → Val) (tells : Tells Y (Is Y) (λ y. val y ∷ [])) (makes : Makes 𝓤 H A Y (Is Y)) (typed : (y : Y .Denot) → Is Y y (val y ∷ []) → Typed σY (val y))
+    (f : MpeReceiver → ℕ → Y .Denot) (Then : End → Taken → Y .Denot → Reply → End → Type 0) where
+  abbrev pub Says : End → Taken → Reply → End → Type 0
+  Says h t = Then h t (f (h .receiver) (t .word))
 
   module _ (κ : Lft) (q : Share) (b o : ℕ) (γ : GName) (h : End) (t : Taken) (t-is : Is Tk.the-row t (taken-val t ∷ [])) where
     abbrev found : Y .Denot
@@ -266,7 +269,7 @@ module _ {M : Type 1} (𝓤 : URA M) (H : Heap 𝓤) (A : Atoms 𝓤) (W : Given
         (LL.lawful Tk.the-type Tk′.the-laws 𝓤 H A W .typed t _ t-is .0)
         (lending 𝓤 H A W Says κ q b o γ h t t-is) (Post 𝓤 H A W Says κ q b o γ h t t-is) (mean 𝓤 H A (L.holds 𝓤 H A W κ q b o γ h)) (Is T.the-row h (end-val h ∷ [])) (Is Y found (val found ∷ []))
         (L.opens-here 𝓤 H A W κ q b o γ h) (λ was. LL.lawful Rv.the-type Rv′.the-laws 𝓤 H A W .typed (h .receiver) _ (receiver-is was) .0)
-        (λ was. gives C find-known (h .receiver) (t .word) (receiver-is was) word-fits) (typed found)
+        (λ was. gives 𝓤 H A W find Y val tells f C find-known (h .receiver) (t .word) (receiver-is was) word-fits) (typed found)
         (λ was is. passes-since W (L.closes-at 𝓤 H A W κ q b o γ h _ h refl was) (passes-with 𝓤 H A W Says κ q b o γ h t t-is C next Y val makes Then next-known found is (λ r e said. said)))
 
   pub onward : (𝓣 : Tables 𝓤 H) → Triple 𝓤 (𝓣 .C find) (Finds 𝓤 H A Y f) → Triple 𝓤 (𝓣 .C next) (OntoWith 𝓤 H A Y Then)

@@ -36,7 +36,7 @@ use denote.Exit.{yes}
 use Rattle.receiving_end.specs.declared.end.End.{End}
 use Rattle.receiving_end.specs.declared.end.Reply.{Reply}
 use Rattle.lent_end.specs.declared.Taken.{Taken}
-use Rattle.lent_end.proofs.Walk.{Gives, told}
+use Rattle.lent_end.proofs.Walk.{Gives, answer-known}
 use Rattle.lent_end.proofs.Lending as L
 use Rattle.lent_end.proofs.Lending.{reply-val}
 use Rattle.lent_end.proofs.Onward.{taken-val, signature-with, ended-with}
@@ -79,7 +79,7 @@ module _ {M : Type 1} (𝓤 : URA M) (H : Heap 𝓤) (A : Atoms 𝓤) where
     answered = λ u. qed W (raw (Number w f .post (number-to w f n) u) ∷ []) ∵ updating ! $
         use1 W (later (some (λ (y : ℕ). (‵ ftrue ⊛ ‵ (UInt w .own y (u ∷ []))) ⊛ raw (ensured 𝓤 H A (ended-by w) (clauses-by w f) tt (n, tt) tt y)))) (id⊢ 𝓤 _) $ await ! tt $ pick ! (λ y.
         split ! $ move ! (1 ∷ []) $ use1 W (raw (fact 𝓤 (y ≡ f n))) (number-of w f n y) $ heard ! (y ≡ f n) (λ right. split ! $ drop ! $
-        peeks ! (UInt w) (Is (UInt w)) (shows 𝓤 H A (UInt w)) y (u ∷ []) (λ is. drop ! $ now ! $ check ! (told (UInt w) (uint-vals w) (uint-tells w) y (f n) u right is) $ done !)));
+        peeks ! (UInt w) (Is (UInt w)) (shows 𝓤 H A (UInt w)) y (u ∷ []) (λ is. drop ! $ now ! $ check ! (answer-known (UInt w) (uint-vals w) (uint-tells w) y (f n) u right is) $ done !)));
   }
 
 abbrev stayed : Stays (signature-with R.the-row .params) (ended-with R.the-row .kept)

@@ -102,8 +102,8 @@ module _ {M : Type 1} (𝓤 : URA M) (H : Heap 𝓤) (A : Atoms 𝓤) (W : Given
       feqI ! (List Val) (vptr b o ∷ []) (vptr b o ∷ []) refl $ fjoin3 ! $ now ! $ done !
 
 -- what a type's own value says of the machine value of an answer that is known
-pub told : (R : RattleType) (vals : R .Denot → List Val) → Tells R (Is R) vals → (y x : R .Denot) (u : Val) → y ≡ x → Is R y (u ∷ []) → (u ≡ only (vals x)) × Is R x (vals x)
-told R vals tells y x u right is = (ap only spelled, subst (Is R x) spelled is′)
+pub answer-known : (R : RattleType) (vals : R .Denot → List Val) → Tells R (Is R) vals → (y x : R .Denot) (u : Val) → y ≡ x → Is R y (u ∷ []) → (u ≡ only (vals x)) × Is R x (vals x)
+answer-known R vals tells y x u right is = (ap only spelled, subst (Is R x) spelled is′)
   where
     is′ : Is R x (u ∷ [])
     is′ = subst (λ (z : R .Denot). Is R z (u ∷ [])) right is

@@ -1,21 +1,24 @@
 -- A lent end taken apart: what the by-value functions that the lent byte call makes answer. Private functions cite these; the byte call itself is held to End.antt.
 use Prim.Native.Nat.{ℕ, _%_}
-use mathlib.Core.Bool.{true, false}
+use mathlib.Core.Bool.{Bool, true, false}
 use lib.Dec.{eqb}
 use lib.ListN.{set}
 use Rattle.ump.specs.Choice.{if_then_else_}
 use Rattle.ump.specs.Word.{opcodeOf, channelOf, firstOf, secondOf, bendOf}
 use Rattle.parameters.specs.declared.ParameterState.{ParameterState}
+use Rattle.parameters.specs.declared.MaybeEvent.{MaybeEvent}
+use Rattle.parameters.specs.declared.MaybeEvent.the-variants.{NoEvent, Event}
 use Rattle.parameters.specs.State as parameter
+use Rattle.mpe_layout.specs.declared.MpeZone.{MpeZone}
+use Rattle.mpe_layout.specs.declared.MpeRole.{MpeRole}
+use Rattle.mpe_layout.specs.declared.MpeRole.the-variants as role
 use Rattle.mpe_receiver.specs.declared.MpeReceiver.{MpeReceiver}
 use Rattle.mpe_zones.specs.declared.MpeEvent.{MpeEvent}
-use Rattle.mpe_zones.specs.declared.MpeEvent.the-variants.{Ignored}
-use Rattle.mpe_zones.specs.declared.ZonesUpdate.{ZonesUpdate}
-use Rattle.mpe_zones.specs.declared.Zones.{Zones}
-use Rattle.mpe_zones.specs.Zones.{roleHeld}
-use Rattle.mpe_zones.specs.Update.{plainEvent, voiceOf, decoded, updatedAs}
+use Rattle.mpe_zones.specs.declared.MpeEvent.the-variants.{NoZone, Zone, Ignored}
+use Rattle.mpe_zones.specs.Zones.{monoOf, roleHeld}
+use Rattle.mpe_zones.specs.Update.{onMember}
 use Rattle.mpe_receiver.specs.State.{withBends, withPressures, withBrightnesses, zonesOf}
-use Rattle.mpe_receiver.specs.Receive.{settlesBy, settled}
+use Rattle.mpe_receiver.specs.Receive as receiver
 use Rattle.byte_reader.specs.declared.Reader.{Reader}
 use Rattle.byte_reader.specs.declared.Read.{Read}
 use Rattle.byte_reader.specs.declared.Read.the-variants as read
@@ -24,9 +27,9 @@ use Rattle.receiving_end.specs.declared.end.End.{End}
 use Rattle.receiving_end.specs.declared.end.Reply.{Reply}
 use Rattle.receiving_end.specs.declared.end.Reply.the-variants.{Quiet, Dropped, RealTime, Message}
 use Rattle.lent_end.specs.declared.Taken.{Taken}
-use Rattle.lent_end.specs.declared.Placed.{Placed}
 use Rattle.lent_end.specs.declared.Controlled.{Controlled}
-use Rattle.receiving_end.specs.End.{withReceiver, withParameter, parameterAt}
+use Rattle.lent_end.specs.declared.Settled.{Settled}
+use Rattle.receiving_end.specs.End.{withReceiver, withParameter, parameterAt, parameterEventAt, mpeIn}
 
 -- a byte that reaches the reader alone
 abbrev pub readerOnly : Reader → Reply → Taken
@@ -68,42 +71,42 @@ readTaken r (read.Message w) = wordTaken r w
 abbrev pub takenOf : Reader → ℕ → Taken
 takenOf r b = readTaken (readStep r b .reader) (readStep r b .read)
 
--- the event of a message by its channel's role, where no parameter event decides
-abbrev pub placedEvent : Zones → ℕ → MpeEvent
-placedEvent z w = plainEvent z (channelOf w) (roleHeld (z .layout) (channelOf w)) (opcodeOf w) (firstOf w)
+-- a message on a member, which need not be the lowest: only the mode messages 126 and 127 ask for that (document 01, "The receiver", 4 to 6)
+abbrev pub eventOnMember : MpeZone → Bool → ℕ → ℕ → MpeEvent
+eventOnMember zone mono opcode a = onMember zone mono false opcode a
 
-abbrev pub placedOf : MpeReceiver → ℕ → Placed
-placedOf r w =
+-- a message that alters no parameter and no zone, by its channel's role
+abbrev pub eventByRole : MpeReceiver → MpeRole → ℕ → MpeEvent
+eventByRole r role.NoZone w = NoZone
+eventByRole r (role.Manager zone) w = Zone zone true
+eventByRole r (role.Member zone) w = eventOnMember zone (monoOf (zonesOf r) zone) (opcodeOf w) (firstOf w)
+
+-- the reply to it
+abbrev pub eventReply : MpeReceiver → ℕ → Reply
+eventReply r w = Message w (eventByRole r (roleHeld (r .layout) (channelOf w)) w)
+
+-- a control change other than a brightness may change the receiver where the parameters gave an event for it, and where it is 121 (RP-015), 126 or 127 (M1-100 2.2.4.3)
+abbrev pub settlesWith : MaybeEvent → ℕ → Bool
+settlesWith NoEvent a = if eqb a 121 then true else if eqb a 126 then true else eqb a 127
+settlesWith (Event e) a = true
+
+-- it reaches the parameters of its channel first (document 01, "The message reaches its channel's parameters")
+abbrev pub controlledOf : ParameterState → ℕ → Controlled
+controlledOf p w =
     record {
-      zones = zonesOf r;
-      role = roleHeld (r .layout) (channelOf w);
-      event = placedEvent (zonesOf r) w;
+      state = parameter.parameterAfter p w;
+      event = parameterEventAt p w;
+      settles = settlesWith (parameterEventAt p w) (firstOf w);
     }
 
--- the reply to a brightness, or to a message that is no control change
-abbrev pub voiceReply : MpeReceiver → ℕ → Reply
-voiceReply r w = Message w (voiceOf (zonesOf r) (roleHeld (r .layout) (channelOf w)) (opcodeOf w))
+-- a message reaches the receiver, with the event of the parameters
+abbrev pub settledOf : MpeReceiver → ℕ → MaybeEvent → Settled
+settledOf r w event =
+    record { receiver = receiver.receiverAfter r w event; reply = Message w (mpeIn (receiver.receiverReply r w event)) }
 
--- a control change: the zones after it and its event, with the event that the channel's parameters give
-abbrev pub toldOf : ParameterState → Placed → ℕ → ZonesUpdate
-toldOf p at w =
-    updatedAs (at .zones) (channelOf w) (at .role) (at .event)
-    (decoded (opcodeOf w) (parameter.controlled p (firstOf w) (secondOf w) .event))
-    (firstOf w)
-
-abbrev pub controlledOf : ParameterState → Placed → ℕ → Controlled
-controlledOf p at w =
-    record {
-      state = parameter.controlled p (firstOf w) (secondOf w) .state;
-      zones = toldOf p at w .zones;
-      settles = settlesBy w (toldOf p at w .event);
-      event = toldOf p at w .event;
-      reply = Message w (toldOf p at w .event);
-    }
-
--- the end after each lent call; a channel is taken modulo 16
-abbrev pub voicedEnd : End → Taken → End
-voicedEnd e t =
+-- the end after each lent call, and the reply where it is found there; a channel is taken modulo 16
+abbrev pub storedEnd : End → Taken → End
+storedEnd e t =
     if t .bends then
     withReceiver e (withBends (e .receiver) (set (e .receiver .«pitch_bend») (t .channel % 16) (bendOf (t .word))))
     else
@@ -111,41 +114,46 @@ voicedEnd e t =
     withReceiver e (withPressures (e .receiver) (set (e .receiver .pressure) (t .channel % 16) (firstOf (t .word))))
     else e
 
-abbrev pub brightEnd : End → Taken → End
-brightEnd e t =
+abbrev pub brightnessEnd : End → Taken → End
+brightnessEnd e t =
     withReceiver e (withBrightnesses (e .receiver) (set (e .receiver .brightness) (t .channel % 16) (secondOf (t .word))))
 
-abbrev pub settledEnd : End → Zones → ℕ → MpeEvent → End
-settledEnd e z w event = withReceiver e (settled (e .receiver) z w event)
+abbrev pub settledEnd : End → ℕ → MaybeEvent → End
+settledEnd e w event = withReceiver e (settledOf (e .receiver) w event .receiver)
 
-abbrev pub receiverEnd : End → ℕ → Controlled → End
-receiverEnd e w c = if c .settles then settledEnd e (c .zones) w (c .event) else e
+abbrev pub settledReply : End → ℕ → MaybeEvent → Reply
+settledReply e w event = settledOf (e .receiver) w event .reply
+
+-- where it may change
+abbrev pub updatedEnd : End → ℕ → Controlled → End
+updatedEnd e w c = if c .settles then settledEnd e w (c .event) else e
+
+abbrev pub updatedReply : End → ℕ → Controlled → Reply
+updatedReply e w c = if c .settles then settledReply e w (c .event) else eventReply (e .receiver) w
 
 abbrev pub parameterEnd : End → ℕ → ℕ → Controlled → End
-parameterEnd e w channel c = receiverEnd (withParameter e (channel % 16) (c .state)) w c
+parameterEnd e w channel c = updatedEnd (withParameter e (channel % 16) (c .state)) w c
 
-abbrev pub controlledAt : End → ℕ → ℕ → Placed → Controlled
-controlledAt e w channel at = controlledOf (parameterAt e (channel % 16)) at w
+abbrev pub controlledAt : End → ℕ → ℕ → Controlled
+controlledAt e w channel = controlledOf (parameterAt e (channel % 16)) w
 
-abbrev pub controlledEnd : End → ℕ → ℕ → Placed → End
-controlledEnd e w channel at = parameterEnd e w channel (controlledAt e w channel at)
-
--- a control change with its place in the zones
+-- a control change other than a brightness
 abbrev pub controlEnd : End → Taken → End
-controlEnd e t = controlledEnd e (t .word) (t .channel) (placedOf (e .receiver) (t .word))
+controlEnd e t = parameterEnd e (t .word) (t .channel) (controlledAt e (t .word) (t .channel))
 
 abbrev pub controlReply : End → Taken → Reply
-controlReply e t = controlledAt e (t .word) (t .channel) (placedOf (e .receiver) (t .word)) .reply
+controlReply e t = updatedReply e (t .word) (controlledAt e (t .word) (t .channel))
 
--- a control change: a brightness, or another
+-- any control change
 abbrev pub changedEnd : End → Taken → End
-changedEnd e t = if t .brightens then brightEnd e t else controlEnd e t
+changedEnd e t = if t .brightens then brightnessEnd e t else controlEnd e t
 
 abbrev pub changedReply : End → Taken → Reply
-changedReply e t = if t .brightens then voiceReply (e .receiver) (t .word) else controlReply e t
+changedReply e t = if t .brightens then eventReply (e .receiver) (t .word) else controlReply e t
 
-abbrev pub toldEnd : End → Taken → End
-toldEnd e t = if t .control then changedEnd e t else voicedEnd e t
+-- a message of a channel
+abbrev pub messageEnd : End → Taken → End
+messageEnd e t = if t .control then changedEnd e t else storedEnd e t
 
-abbrev pub toldReply : End → Taken → Reply
-toldReply e t = if t .control then changedReply e t else voiceReply (e .receiver) (t .word)
+abbrev pub messageReply : End → Taken → Reply
+messageReply e t = if t .control then changedReply e t else eventReply (e .receiver) (t .word)

@@ -1,20 +1,25 @@
 // The byte call on a lent end: the end is taken apart and altered where it stands.
 ghost use mathlib.Core.Path.{_≡_};
-ghost use Rattle.receiving_end.specs.End.{stepReply, stepEnd};
-ghost use Rattle.lent_end.specs.Lent.{readerOnly, wordTaken, readTaken, takenOf, placedOf, voiceReply, controlledOf, voicedEnd, brightEnd, settledEnd, receiverEnd, parameterEnd, controlledAt, controlledEnd, controlReply, controlEnd, toldReply, toldEnd};
+ghost use Rattle.parameters.specs.State.{parameterReplyRead};
+ghost use Rattle.mpe_zones.specs.Update.{inMode4};
+ghost use Rattle.mpe_receiver.specs.Receive.{receiverReplyRead};
+ghost use Rattle.receiving_end.specs.End.{eventIn, mpeIn, stepReply, stepEnd};
+ghost use Rattle.ump.specs.Word.{bendOf};
+ghost use Rattle.receiving_end.specs.declared.end.Reply.the-variants.{Message};
+ghost use Rattle.lent_end.specs.Lent.{readerOnly, wordTaken, readTaken, takenOf, eventOnMember, eventByRole, eventReply, settlesWith, controlledOf, settledOf, storedEnd, brightnessEnd, settledReply, settledEnd, updatedReply, updatedEnd, parameterEnd, controlReply, controlEnd, messageReply, messageEnd};
 use byte_reader::Read;
 use byte_reader::ReadStep;
 use byte_reader::Reader;
+use mpe_layout::FoundRole;
 use mpe_layout::MpeRole;
+use mpe_layout::MpeZone;
 use mpe_receiver::MpeReceiver;
-use mpe_receiver::settles;
 use mpe_zones::MpeEvent;
-use mpe_zones::Zones;
+use parameters::MaybeEvent;
 use parameters::ParameterState;
 use receiving_end::end::End;
 use receiving_end::end::Reply;
 use receiving_end::end::Stepped;
-use ump::channel_voice1::Midi1PitchBend;
 use ump::channel_voice1::channel;
 use ump::channel_voice1::first_data;
 use ump::channel_voice1::opcode;
@@ -35,20 +40,17 @@ struct Taken {
     brightens: bool,
 }
 
-// The zones, the role of a message's channel in them, and the event where no parameter event decides.
-struct Placed {
-    zones: Zones,
-    role: MpeRole,
-    event: MpeEvent,
-}
-
-// What a control change other than a brightness makes of a channel's parameters and of the zones.
+// What a control change other than a brightness gets of its channel's parameters.
 struct Controlled {
     state: ParameterState,
-    zones: Zones,
-    // The receiver is altered.
+    event: MaybeEvent,
+    // The receiver may change.
     settles: bool,
-    event: MpeEvent,
+}
+
+// What the receiver makes of a message.
+struct Settled {
+    receiver: MpeReceiver,
     reply: Reply,
 }
 
@@ -103,7 +105,7 @@ fn take_read(s: ReadStep) -> Taken
     }
 }
 
-// What one byte is. Only a data byte completes a message: the compiler then keeps its way apart from that of the others.
+// What one byte is. Only a data byte completes a message. With its way apart from that of the others the compiler makes 15 to 17 instructions a byte less of it (docs/BENCHMARKS.md).
 fn take(reader: Reader, b: u8) -> Taken
     ensures { λ r. ⌜ r ≡ takenOf reader b ⌝ }
 {
@@ -113,62 +115,158 @@ fn take(reader: Reader, b: u8) -> Taken
     take_read(reader.step(b))
 }
 
-// Where a message stands: its channel's role in the zones, and its event by that role.
-fn place(receiver: MpeReceiver, word: u32) -> Placed
-    ensures { λ r. ⌜ r ≡ placedOf receiver word ⌝ }
+// Program change and bank select reach a member only in mode 4.
+fn event_in_mode_4(zone: MpeZone, mono: bool) -> MpeEvent
+    ensures { λ r. ⌜ r ≡ inMode4 zone mono ⌝ }
 {
-    let zones = receiver.zones();
-    let role = zones.role(channel(word));
-    let event = zones.event(role, opcode(word), channel(word), first_data(word));
-    Placed { zones, role, event }
+    if mono {
+        return MpeEvent::Zone {
+            zone,
+            manager: false,
+        };
+    }
+    MpeEvent::Ignored
 }
 
-// The reply to a brightness or to a message that is no control change.
-fn voice_reply(receiver: MpeReceiver, word: u32) -> Reply
-    ensures { λ r. ⌜ r ≡ voiceReply receiver word ⌝ }
+// A message on a member that sets no mode.
+fn event_on_member(zone: MpeZone, mono: bool, opcode: u8, first: u8) -> MpeEvent
+    ensures { λ r. ⌜ r ≡ eventOnMember zone mono opcode first ⌝ }
 {
-    let zones = receiver.zones();
-    let role = zones.role(channel(word));
-    let event = zones.voice_event(role, opcode(word));
-    Reply::Message(word, event)
+    if opcode == 0xB {
+        if first == 0 {
+            return event_in_mode_4(zone, mono);
+        }
+        if first == 32 {
+            return event_in_mode_4(zone, mono);
+        }
+        return MpeEvent::Zone {
+            zone,
+            manager: false,
+        };
+    }
+    if opcode == 0xA {
+        return MpeEvent::Ignored;
+    }
+    if opcode == 0xC {
+        return event_in_mode_4(zone, mono);
+    }
+    MpeEvent::Zone {
+        zone,
+        manager: false,
+    }
 }
 
-// A control change reaches the parameters of its channel, and the zones with their event.
-fn control(state: ParameterState, placed: Placed, word: u32) -> Controlled
-    ensures { λ r. ⌜ r ≡ controlledOf state placed word ⌝ }
+// A message that alters no parameter and no zone, by its channel's role.
+fn event_by_role(receiver: MpeReceiver, role: MpeRole, word: u32) -> MpeEvent
+    ensures { λ r. ⌜ r ≡ eventByRole receiver role word ⌝ }
 {
-    let zones = placed.zones;
-    let role = placed.role;
-    let plain = placed.event;
-    let heard = state.control(first_data(word), second_data(word));
-    let next = heard.state;
-    let said = heard.event;
-    let t = zones.apply(
-        said,
-        role,
-        plain,
-        opcode(word),
-        channel(word),
-        first_data(word),
-    );
-    let after = t.zones;
-    let event = t.event;
+    match role {
+        MpeRole::NoZone => MpeEvent::NoZone,
+        MpeRole::Manager(zone) => MpeEvent::Zone {
+            zone,
+            manager: true,
+        },
+        MpeRole::Member(zone) => event_on_member(
+            zone,
+            receiver.mode(zone) == 4,
+            opcode(word),
+            first_data(word),
+        ),
+    }
+}
+
+// The reply to a message that alters no parameter and no zone.
+fn event_reply(receiver: MpeReceiver, word: u32) -> Reply
+    ensures { λ r. ⌜ r ≡ eventReply receiver word ⌝ }
+{
+    let layout = receiver.layout();
+    let found = layout.role(channel(word));
+    match found {
+        FoundRole::Role(role) => Reply::Message(word, event_by_role(receiver, role, word)),
+        FoundRole::OutOfRange => Reply::Message(word, MpeEvent::NoZone),
+    }
+}
+
+// The value of a bend.
+fn bend_in(word: u32) -> u16
+    ensures { λ r. ⌜ r ≡ bendOf word ⌝ }
+{
+    second_data(word) as u16 * 128 + first_data(word) as u16
+}
+
+// The event in what the parameters answer.
+fn event_in(reply: parameters::Reply) -> MaybeEvent
+    ensures { λ r. ⌜ r ≡ eventIn (parameterReplyRead reply) ⌝ }
+{
+    match reply {
+        parameters::Reply::Received(e) => e,
+        parameters::Reply::OutOfRange => MaybeEvent::NoEvent,
+    }
+}
+
+// The reply to a message by what the receiver answers.
+fn reply_to(word: u32, reply: mpe_receiver::Reply) -> Reply
+    ensures { λ r. ⌜ r ≡ Message word (mpeIn (receiverReplyRead reply)) ⌝ }
+{
+    match reply {
+        mpe_receiver::Reply::Received(e) => Reply::Message(word, e),
+        mpe_receiver::Reply::OutOfRange => Reply::Message(word, MpeEvent::Ignored),
+    }
+}
+
+// A message reaches the receiver, with the event of its channel's parameters.
+fn settle(receiver: MpeReceiver, word: u32, event: MaybeEvent) -> Settled
+    ensures { λ r. ⌜ r ≡ settledOf receiver word event ⌝ }
+{
+    let got = receiver.receive(word, event);
+    let next = got.receiver;
+    let reply = got.reply;
+    Settled {
+        receiver: next,
+        reply: reply_to(word, reply),
+    }
+}
+
+// A control change other than a brightness may change the receiver: the parameters gave an event, or it is 121, 126 or 127.
+fn settles(event: MaybeEvent, first: u8) -> bool
+    ensures { λ r. ⌜ r ≡ settlesWith event first ⌝ }
+{
+    match event {
+        MaybeEvent::NoEvent => {
+            if first == 121 {
+                return true;
+            }
+            if first == 126 {
+                return true;
+            }
+            first == 127
+        }
+        MaybeEvent::Event(_) => true,
+    }
+}
+
+// A control change reaches the parameters of its channel.
+fn control(state: ParameterState, word: u32) -> Controlled
+    ensures { λ r. ⌜ r ≡ controlledOf state word ⌝ }
+{
+    let got = state.receive(word);
+    let next = got.state;
+    let reply = got.reply;
+    let event = event_in(reply);
     Controlled {
         state: next,
-        zones: after,
-        settles: settles(word, event),
         event,
-        reply: Reply::Message(word, event),
+        settles: settles(event, first_data(word)),
     }
 }
 
 // A bend or a pressure is stored where it stands.
-fn store_voice(end: &mut End, t: Taken, reply: Reply) -> Reply
-    ensures { λ r. ⌜ (r ≡ reply) × (now (end .exit) ≡ voicedEnd (now (end .entry)) t) ⌝ }
+fn store_control(end: &mut End, t: Taken, reply: Reply) -> Reply
+    ensures { λ r. ⌜ (r ≡ reply) × (now (end .exit) ≡ storedEnd (now (end .entry)) t) ⌝ }
 {
     let k = t.channel % 16;
     if t.bends {
-        end.receiver.pitch_bend[k] = Midi1PitchBend::value(t.word);
+        end.receiver.pitch_bend[k] = bend_in(t.word);
         return reply;
     } else if t.presses {
         end.receiver.pressure[k] = first_data(t.word);
@@ -180,90 +278,90 @@ fn store_voice(end: &mut End, t: Taken, reply: Reply) -> Reply
 
 // A brightness is stored where it stands.
 fn store_brightness(end: &mut End, t: Taken, reply: Reply) -> Reply
-    ensures { λ r. ⌜ (r ≡ reply) × (now (end .exit) ≡ brightEnd (now (end .entry)) t) ⌝ }
+    ensures { λ r. ⌜ (r ≡ reply) × (now (end .exit) ≡ brightnessEnd (now (end .entry)) t) ⌝ }
 {
     let k = t.channel % 16;
     end.receiver.brightness[k] = second_data(t.word);
     reply
 }
 
-// The receiver is settled as a whole.
-fn settle_receiver(end: &mut End, zones: Zones, word: u32, event: MpeEvent, reply: Reply) -> Reply
-    ensures { λ r. ⌜ (r ≡ reply) × (now (end .exit) ≡ settledEnd (now (end .entry)) zones word event) ⌝ }
+// The receiver gets the message, with the event of the parameters, as a whole.
+fn settle_receiver(end: &mut End, word: u32, event: MaybeEvent) -> Reply
+    ensures { λ r. ⌜ (r ≡ settledReply (now (end .entry)) word event) × (now (end .exit) ≡ settledEnd (now (end .entry)) word event) ⌝ }
 {
     let receiver = end.receiver;
-    end.receiver = receiver.settle(zones, word, event);
-    reply
+    let s = settle(receiver, word, event);
+    end.receiver = s.receiver;
+    s.reply
 }
 
-// What a control change alters of the receiver.
-fn tell_receiver(end: &mut End, word: u32, c: Controlled) -> Reply
-    ensures { λ r. ⌜ (r ≡ c .reply) × (now (end .exit) ≡ receiverEnd (now (end .entry)) word c) ⌝ }
+// The receiver stays as it is.
+fn reply_only(end: &mut End, word: u32) -> Reply
+    ensures { λ r. ⌜ (r ≡ eventReply (now (end .entry) .receiver) word) × (now (end .exit) ≡ now (end .entry)) ⌝ }
+{
+    let receiver = end.receiver;
+    event_reply(receiver, word)
+}
+
+// What a control change other than a brightness alters of the receiver.
+fn update_receiver(end: &mut End, word: u32, c: Controlled) -> Reply
+    ensures { λ r. ⌜ (r ≡ updatedReply (now (end .entry)) word c) × (now (end .exit) ≡ updatedEnd (now (end .entry)) word c) ⌝ }
 {
     if c.settles {
-        return settle_receiver(end, c.zones, word, c.event, c.reply);
+        return settle_receiver(end, word, c.event);
     } else {
-        return c.reply;
+        return reply_only(end, word);
     }
 }
 
-// The parameters of the channel are stored where they stand, and the receiver is told.
-fn tell_parameter(end: &mut End, word: u32, channel: usize, c: Controlled) -> Reply
-    ensures { λ r. ⌜ (r ≡ c .reply) × (now (end .exit) ≡ parameterEnd (now (end .entry)) word channel c) ⌝ }
+// The parameters of the channel are stored where they stand, and then the receiver gets the message.
+fn store_parameter(end: &mut End, word: u32, channel: usize, c: Controlled) -> Reply
+    ensures { λ r. ⌜ (r ≡ updatedReply (now (end .entry)) word c) × (now (end .exit) ≡ parameterEnd (now (end .entry)) word channel c) ⌝ }
 {
     let k = channel % 16;
     end.parameters[k] = c.state;
-    tell_receiver(end, word, c)
+    update_receiver(end, word, c)
 }
 
-// A control change that has its place in the zones reaches its channel's parameters first.
-fn tell_placed(end: &mut End, t: Taken, placed: Placed) -> Reply
-    ensures { λ r. ⌜ (r ≡ controlledAt (now (end .entry)) (t .word) (t .channel) placed .reply) × (now (end .exit) ≡ controlledEnd (now (end .entry)) (t .word) (t .channel) placed) ⌝ }
-{
-    let k = t.channel % 16;
-    let c = control(end.parameters[k], placed, t.word);
-    tell_parameter(end, t.word, t.channel, c)
-}
-
-// A control change: its place in the zones, then its channel's parameters.
-fn tell_control(end: &mut End, t: Taken) -> Reply
+// A control change other than a brightness reaches its channel's parameters first.
+fn receive_control(end: &mut End, t: Taken) -> Reply
     ensures { λ r. ⌜ (r ≡ controlReply (now (end .entry)) t) × (now (end .exit) ≡ controlEnd (now (end .entry)) t) ⌝ }
 {
-    let receiver = end.receiver;
-    let placed = place(receiver, t.word);
-    tell_placed(end, t, placed)
+    let k = t.channel % 16;
+    let c = control(end.parameters[k], t.word);
+    store_parameter(end, t.word, t.channel, c)
 }
 
 // A message that is no control change: its reply, and what it stores.
-fn tell_voice(end: &mut End, t: Taken) -> Reply
-    ensures { λ r. ⌜ (r ≡ voiceReply (now (end .entry) .receiver) (t .word)) × (now (end .exit) ≡ voicedEnd (now (end .entry)) t) ⌝ }
+fn receive_other(end: &mut End, t: Taken) -> Reply
+    ensures { λ r. ⌜ (r ≡ eventReply (now (end .entry) .receiver) (t .word)) × (now (end .exit) ≡ storedEnd (now (end .entry)) t) ⌝ }
 {
     let receiver = end.receiver;
-    let reply = voice_reply(receiver, t.word);
-    store_voice(end, t, reply)
+    let reply = event_reply(receiver, t.word);
+    store_control(end, t, reply)
 }
 
-// A brightness, which reaches no parameter and no zone: its reply, and what it stores.
-fn tell_brightness(end: &mut End, t: Taken) -> Reply
-    ensures { λ r. ⌜ (r ≡ voiceReply (now (end .entry) .receiver) (t .word)) × (now (end .exit) ≡ brightEnd (now (end .entry)) t) ⌝ }
+// A brightness, which alters no parameter and no zone: its reply, and what it stores.
+fn receive_brightness(end: &mut End, t: Taken) -> Reply
+    ensures { λ r. ⌜ (r ≡ eventReply (now (end .entry) .receiver) (t .word)) × (now (end .exit) ≡ brightnessEnd (now (end .entry)) t) ⌝ }
 {
     let receiver = end.receiver;
-    let reply = voice_reply(receiver, t.word);
+    let reply = event_reply(receiver, t.word);
     store_brightness(end, t, reply)
 }
 
 // A message of a channel.
-fn tell(end: &mut End, t: Taken) -> Reply
-    ensures { λ r. ⌜ (r ≡ toldReply (now (end .entry)) t) × (now (end .exit) ≡ toldEnd (now (end .entry)) t) ⌝ }
+fn receive_message(end: &mut End, t: Taken) -> Reply
+    ensures { λ r. ⌜ (r ≡ messageReply (now (end .entry)) t) × (now (end .exit) ≡ messageEnd (now (end .entry)) t) ⌝ }
 {
     if t.control {
         if t.brightens {
-            return tell_brightness(end, t);
+            return receive_brightness(end, t);
         } else {
-            return tell_control(end, t);
+            return receive_control(end, t);
         }
     } else {
-        return tell_voice(end, t);
+        return receive_other(end, t);
     }
 }
 
@@ -275,7 +373,7 @@ pub fn byte(end: &mut End, b: u8) -> Reply
     let t = take(reader, b);
     end.reader = t.reader;
     if t.message {
-        return tell(end, t);
+        return receive_message(end, t);
     } else {
         return t.reply;
     }

@@ -1,4 +1,4 @@
--- `byte` meets its contract: a walk of its MIR, by hand. The borrow is opened; the reader is copied out and passed to `take`, and what it gives is written over the reader; and the borrow is closed. A message is passed on for good, with the borrow, to `tell`. All that the proof knows of the two is that they meet their contracts.
+-- `byte` meets its contract: a walk of its MIR, by hand. The borrow is opened; the reader is copied out and passed to `take`, and what it gives is written over the reader; and the borrow is closed. A message is passed on for good, with the borrow, to `receive_message`. All that the proof knows of the two is that they meet their contracts.
 -- The walk is over MIR types that are variables; the real types are put in afterwards.
 -- Assumes nothing.
 use mathlib.Core.Path.{_≡_, refl, sym, subst}
@@ -44,15 +44,15 @@ use denote.Triple.Spec.{Meets, tripleOf}
 use denote.Triple.Table.{entered, cited}
 use denote.Triple.Walked.{says, Stays, gave-ref, stay-none, walkOf, AllGo, goes-none, goes-gave-ref, Walks, ends-at, walked, walk-meets}
 use denote.Exit.{yes}
-use Rattle.lent_end.specs.Lent.{toldReply, toldEnd, takenOf}
+use Rattle.lent_end.specs.Lent.{messageReply, messageEnd, takenOf}
 use Rattle.receiving_end.specs.End.{withReader, stepReply, stepEnd}
-use Rattle.lent_end.proofs.Lent.{told-right, quiet-right}
+use Rattle.lent_end.proofs.Lent.{message-right, reader-right}
 use Rattle.receiving_end.specs.declared.end.End.{End}
 use Rattle.receiving_end.specs.declared.end.Reply.{Reply}
 use Rattle.lent_end.specs.declared.Taken.{Taken}
 use Rattle.byte_reader.specs.declared.Reader.{Reader}
 use Rattle.lent_end.proofs.Item.{of-raw}
-use Rattle.lent_end.proofs.Walk.{Typed, member, Passes, Gives, since, passes-since, told}
+use Rattle.lent_end.proofs.Walk.{Typed, member, Passes, Gives, since, passes-since, answer-known}
 use Rattle.lent_end.proofs.Lending as L
 use Rattle.lent_end.proofs.Lending.{end-val, reply-val}
 use Rattle.receiving_end.proofs.end.End as T
@@ -67,10 +67,10 @@ use Rattle.lent_end.proofs.take as take
 use Rattle.lent_end.proofs.take.Symbol as take-def
 use Rattle.lent_end.proofs.take.Symbol.{name as take-name}
 use Rattle.lent_end.proofs.take.Met as take-thm
-use Rattle.lent_end.proofs.tell as next
-use Rattle.lent_end.proofs.tell.Symbol as next-def
-use Rattle.lent_end.proofs.tell.Symbol.{name as next-name}
-use Rattle.lent_end.proofs.tell.Met as next-thm
+use Rattle.lent_end.proofs.receive_message as next
+use Rattle.lent_end.proofs.receive_message.Symbol as next-def
+use Rattle.lent_end.proofs.receive_message.Symbol.{name as next-name}
+use Rattle.lent_end.proofs.receive_message.Met as next-thm
 use Rattle.lent_end.proofs.byte.Key.{name as byte-name}
 use Rattle.lent_end.proofs.byte as f
 use Rattle.lent_end.proofs.byte.Statement as stated
@@ -133,8 +133,8 @@ module _ {M : Type 1} (𝓤 : URA M) (H : Heap 𝓤) (A : Atoms 𝓤) (mem : Mem
   take-of : (s : Reader) (w : ℕ) (y : Taken) → ent 𝓤 (ensured 𝓤 H A take.ended (take.clauses 𝓤 H A mem run) tt (s, (w, tt)) tt y) (fact 𝓤 (y ≡ takenOf s w))
   take-of s w y = exE 𝓤 _ (λ ws. snd∗ 𝓤 (sem 𝓤 H A (lasts take.ended tt (s, (w, tt)) ws)) (fact 𝓤 (y ≡ takenOf s w)))
 
-  abbrev Tell : Contract 𝓤
-  Tell = tripleOf 𝓤 H A next.signature (next.spec 𝓤 H A mem run)
+  abbrev Message : Contract 𝓤
+  Message = tripleOf 𝓤 H A next.signature (next.spec 𝓤 H A mem run)
 
 module _ {M : Type 1} (𝓤 : URA M) (H : Heap 𝓤) (A : Atoms 𝓤) (W : Given 𝓤 H A) (at-mem : Memory → SProp 𝓤) (run : Routine → Fun 𝓤) (κ : Lft) (q : Share) (b o : ℕ) (γ : GName) (h : End) (b₈ : ℕ) (b₈-fits : b₈ < 2 ^ 8) where
   abbrev x : (RefT End × (ℕ × Unit {0}))
@@ -172,7 +172,7 @@ module _ {M : Type 1} (𝓤 : URA M) (H : Heap 𝓤) (A : Atoms 𝓤) (W : Given
   abbrev take-to : (s₁ : Reader) (w₁ : ℕ) → Take 𝓤 H A at-mem run .Ghost
   take-to s₁ w₁ = ((tt, tt, tt, (s₁, (w₁, tt)), ((LL.val Rd.the-type Rd′.the-laws s₁) ∷ [], ((vint w8 w₁) ∷ [], tt))), tt)
 
-  abbrev next-to : (e₁ : End) (t₁ : Taken) → Tell 𝓤 H A at-mem run .Ghost
+  abbrev next-to : (e₁ : End) (t₁ : Taken) → Message 𝓤 H A at-mem run .Ghost
   next-to e₁ t₁ = (((κ, tt), (q, tt), tt, (record { ptr = (b, o); name = γ; now = e₁ }, (t₁, tt)), (vptr b o ∷ [], ((LL.val Tk.the-type Tk′.the-laws t₁) ∷ [], tt))), tt)
 
   abbrev taking : Taken
@@ -197,13 +197,13 @@ module _ {M : Type 1} (𝓤 : URA M) (H : Heap 𝓤) (A : Atoms 𝓤) (W : Given
   status-fits : Is T.the-row h (end-val h ∷ []) → h .reader .status < 2 ^ 8
   status-fits was = LL.owed Rd.the-type Rd′.the-laws (h .reader) _ (reader-is was) .0 .1
 
-  tells-right : Is T.the-row h (end-val h ∷ []) → Holds (taking .message) → (r : Reply) (e : End) → (r ≡ toldReply read-on taking) × (e ≡ toldEnd read-on taking) → Right r e
-  tells-right was s r e said = told-right h b₈ taking refl s (status-fits was) said
+  passes-right : Is T.the-row h (end-val h ∷ []) → Holds (taking .message) → (r : Reply) (e : End) → (r ≡ messageReply read-on taking) × (e ≡ messageEnd read-on taking) → Right r e
+  passes-right was s r e said = message-right h b₈ taking refl s (status-fits was) said
 
   stays-right : Is T.the-row h (end-val h ∷ []) → Holds (not (taking .message)) → Right (taking .reply) read-on
-  stays-right was s = quiet-right h b₈ taking refl s (status-fits was)
+  stays-right was s = reader-right h b₈ taking refl s (status-fits was)
 
-  module _ (C : Calls 𝓤 H) (Λ : Loops 𝓤 H) (fm : FmC 𝓤 H (W .laws) C) (take-known : Triple 𝓤 (C take-name) (Take 𝓤 H A at-mem run)) (next-known : Triple 𝓤 (C next-name) (Tell 𝓤 H A at-mem run)) where
+  module _ (C : Calls 𝓤 H) (Λ : Loops 𝓤 H) (fm : FmC 𝓤 H (W .laws) C) (take-known : Triple 𝓤 (C take-name) (Take 𝓤 H A at-mem run)) (next-known : Triple 𝓤 (C next-name) (Message 𝓤 H A at-mem run)) where
     take-gives : (s₁ : Reader) (w₁ : ℕ) (s₁-is : Is Rd.the-row s₁ ((LL.val Rd.the-type Rd′.the-laws s₁) ∷ [])) (w₁-fits : w₁ < 2 ^ 8) → Gives H C take-name ((LL.val Rd.the-type Rd′.the-laws s₁) ∷ (vint w8 w₁) ∷ []) (LL.val Tk.the-type Tk′.the-laws (takenOf (s₁) (w₁))) (Is Tk.the-row (takenOf (s₁) (w₁)) ((LL.val Tk.the-type Tk′.the-laws (takenOf (s₁) (w₁))) ∷ []))
     take-gives s₁ w₁ s₁-is w₁-fits = record {
       Ready = Take 𝓤 H A at-mem run .pre (take-to s₁ w₁);
@@ -213,16 +213,16 @@ module _ {M : Type 1} (𝓤 : URA M) (H : Heap 𝓤) (A : Atoms 𝓤) (W : Given
       answered = λ u. qed W (raw (Take 𝓤 H A at-mem run .post (take-to s₁ w₁) u) ∷ []) ∵ updating ! $
           use1 W (later (some (λ (y : Taken). (‵ ftrue ⊛ ‵ (Tk.the-row .own y (u ∷ []))) ⊛ raw (ensured 𝓤 H A take.ended (take.clauses 𝓤 H A at-mem run) tt (s₁, (w₁, tt)) tt y)))) (id⊢ 𝓤 _) $ await ! tt $ pick ! (λ y.
           split ! $ move ! (1 ∷ []) $ use1 W (raw (fact 𝓤 (y ≡ takenOf (s₁) (w₁)))) (take-of 𝓤 H A at-mem run s₁ w₁ y) $ heard ! (y ≡ takenOf (s₁) (w₁)) (λ right. split ! $ drop ! $
-          peeks ! Tk.the-row (Is Tk.the-row) (shows 𝓤 H A Tk.the-row) y (u ∷ []) (λ is. drop ! $ now ! $ check ! (told Tk.the-row (LL.vals Tk.the-type Tk′.the-laws) (LL.tells Tk.the-type Tk′.the-laws) y (takenOf (s₁) (w₁)) u right is) $ done !)));
+          peeks ! Tk.the-row (Is Tk.the-row) (shows 𝓤 H A Tk.the-row) y (u ∷ []) (λ is. drop ! $ now ! $ check ! (answer-known Tk.the-row (LL.vals Tk.the-type Tk′.the-laws) (LL.tells Tk.the-type Tk′.the-laws) y (takenOf (s₁) (w₁)) u right is) $ done !)));
     }
 
-    next-passes : (e₁ : End) (t₁ : Taken) (t₁-is : Is Tk.the-row t₁ ((LL.val Tk.the-type Tk′.the-laws t₁) ∷ [])) → ((r : Reply) (e : End) → (r ≡ toldReply e₁ t₁) × (e ≡ toldEnd e₁ t₁) → Right r e) → Passes H C next-name (vptr b o ∷ (LL.val Tk.the-type Tk′.the-laws t₁) ∷ []) R′.mir (lending e₁) Post
+    next-passes : (e₁ : End) (t₁ : Taken) (t₁-is : Is Tk.the-row t₁ ((LL.val Tk.the-type Tk′.the-laws t₁) ∷ [])) → ((r : Reply) (e : End) → (r ≡ messageReply e₁ t₁) × (e ≡ messageEnd e₁ t₁) → Right r e) → Passes H C next-name (vptr b o ∷ (LL.val Tk.the-type Tk′.the-laws t₁) ∷ []) R′.mir (lending e₁) Post
     next-passes e₁ t₁ t₁-is right = record {
-      Ready = Tell 𝓤 H A at-mem run .pre (next-to e₁ t₁);
-      Q = Tell 𝓤 H A at-mem run .post (next-to e₁ t₁);
+      Ready = Message 𝓤 H A at-mem run .pre (next-to e₁ t₁);
+      Q = Message 𝓤 H A at-mem run .post (next-to e₁ t₁);
       ready = qed W (L.lends 𝓤 H A W κ q b o γ e₁ ∷ []) ∵ updating ! $ now ! $ split ! $ nothing ! $ owned ! Tk.the-row (Is Tk.the-row) (LL.makes Tk.the-type Tk′.the-plain 𝓤 H A) t₁ _ t₁-is $ fjoin ! $ move ! (1 ∷ 0 ∷ []) $ fjoin ! $ nothing ! $ move ! (2 ∷ 0 ∷ []) $ join ! $ join ! $ frame ! $ done !;
       met = next-known (next-to e₁ t₁);
-      answered = L.answers 𝓤 H A W κ q b o γ Post Right exits (Unit {0} × Unit {0}) (λ zs. fsep ftrue (ftrue)) (λ r e. (r ≡ toldReply e₁ t₁) × (e ≡ toldEnd e₁ t₁)) right;
+      answered = L.answers 𝓤 H A W κ q b o γ Post Right exits (Unit {0} × Unit {0}) (λ zs. fsep ftrue (ftrue)) (λ r e. (r ≡ messageReply e₁ t₁) × (e ≡ messageEnd e₁ t₁)) right;
     }
 
     walk : ent 𝓤 (onEntry 𝓤 H A f.signature (κ, tt) (q, tt) x at) (WpFn 𝓤 H C Λ code.function (vptr b o ∷ (vint w8 b₈) ∷ []) Post)
@@ -233,18 +233,18 @@ module _ {M : Type 1} (𝓤 : URA M) (H : Heap 𝓤) (A : Atoms 𝓤) (W : Given
         (lending h) Post holding (Is T.the-row h (end-val h ∷ [])) (Is Tk.the-row taking ((LL.val Tk.the-type Tk′.the-laws taking) ∷ []))
         (L.opens-here 𝓤 H A W κ q b o γ h) (λ was. LL.lawful Rd.the-type Rd′.the-laws 𝓤 H A W .typed (h .reader) _ (reader-is was) .0)
         (λ was. take-gives (h .reader) b₈ (reader-is was) b₈-fits) (λ is. LL.lawful Tk.the-type Tk′.the-laws 𝓤 H A W .typed taking _ is .0) (λ is. LL.lawful Rd.the-type Rd′.the-laws 𝓤 H A W .typed (taking .reader) _ (after-is is) .0) (λ is. EL.lawful R.the-type R′.the-laws 𝓤 H A W tt .typed (taking .reply) _ (reply-is is) .0)
-        (λ was is s. passes-since W (L.closes-at 𝓤 H A W κ q b o γ h _ read-on refl (made is was)) (next-passes read-on taking is (tells-right was s)))
+        (λ was is s. passes-since W (L.closes-at 𝓤 H A W κ q b o γ h _ read-on refl (made is was)) (next-passes read-on taking is (passes-right was s)))
         (λ was is s. since W (L.closes-at 𝓤 H A W κ q b o γ h _ read-on refl (made is was)) (ends read-on (taking .reply) (reply-is is) (stays-right was s))))
 
 module _ {M : Type 1} (𝓤 : URA M) (H : Heap 𝓤) (A : Atoms 𝓤) (W : Given 𝓤 H A) (at-mem : Memory → SProp 𝓤) (run : Routine → Fun 𝓤) where
-  byte-walks : (C : Calls 𝓤 H) (Λ : Loops 𝓤 H) → FmC 𝓤 H (W .laws) C → Triple 𝓤 (C take-name) (Take 𝓤 H A at-mem run) → Triple 𝓤 (C next-name) (Tell 𝓤 H A at-mem run) → Walks 𝓤 H A f.ended stayed (WpFn 𝓤 H C Λ code.function) (f.clauses 𝓤 H A at-mem run)
+  byte-walks : (C : Calls 𝓤 H) (Λ : Loops 𝓤 H) → FmC 𝓤 H (W .laws) C → Triple 𝓤 (C take-name) (Take 𝓤 H A at-mem run) → Triple 𝓤 (C next-name) (Message 𝓤 H A at-mem run) → Walks 𝓤 H A f.ended stayed (WpFn 𝓤 H C Λ code.function) (f.clauses 𝓤 H A at-mem run)
   byte-walks C Λ fm take-known next-known = walked 𝓤 H A f.ended stayed (f.clauses 𝓤 H A at-mem run) (WpFn 𝓤 H C Λ code.function) (λ κs. (ptr-vals, (uint-vals w8, tt))) (λ κs. (mut-tells (named 0) (κs .0) T.the-row, (uint-tells w8, tt)))
       (λ κs qs bounds a _ are. via 𝓤 _ (fst∗ 𝓤 _ (emp 𝓤)) (walk 𝓤 H A W at-mem run (κs .0) (qs .0) (a .0 .ptr .0) (a .0 .ptr .1) (a .0 .name) (a .0 .now) (a .1 .0) (are .1 .0 .1) C Λ fm take-known next-known))
 
   goes : AllGo 𝓤 H A W 1 (f.signature .params) (f.ended .kept) stayed
   goes = (goes-gave-ref 𝓤 H A W 1 0 tt (plain (λ _. T.the-row)), (goes-none 𝓤 H A W 1 (λ _. u8) yes (λ κs x f. refl), tt))
 
-byte-meets : {M : Type 1} (𝓤 : URA M) (H : Heap 𝓤) (A : Atoms 𝓤) → Given 𝓤 H A → (at-mem : Memory → SProp 𝓤) (run : Routine → Fun 𝓤) (𝓣 : Tables 𝓤 H) → Triple 𝓤 (𝓣 .C take-name) (Take 𝓤 H A at-mem run) → Triple 𝓤 (𝓣 .C next-name) (Tell 𝓤 H A at-mem run) → Meets 𝓤 H A f.signature (WpFn 𝓤 H (𝓣 .C) (𝓣 .Λ) code.function) (f.spec 𝓤 H A at-mem run)
+byte-meets : {M : Type 1} (𝓤 : URA M) (H : Heap 𝓤) (A : Atoms 𝓤) → Given 𝓤 H A → (at-mem : Memory → SProp 𝓤) (run : Routine → Fun 𝓤) (𝓣 : Tables 𝓤 H) → Triple 𝓤 (𝓣 .C take-name) (Take 𝓤 H A at-mem run) → Triple 𝓤 (𝓣 .C next-name) (Message 𝓤 H A at-mem run) → Meets 𝓤 H A f.signature (WpFn 𝓤 H (𝓣 .C) (𝓣 .Λ) code.function) (f.spec 𝓤 H A at-mem run)
 byte-meets 𝓤 H A W at-mem run 𝓣 take-known next-known = walk-meets 𝓤 H A f.ended stayed W (goes 𝓤 H A W at-mem run) (f.clauses 𝓤 H A at-mem run) (WpFn 𝓤 H (𝓣 .C) (𝓣 .Λ) code.function) (WpFn-mono 𝓤 H (W .laws) 𝓣 code.function) (byte-walks 𝓤 H A W at-mem run (𝓣 .C) (𝓣 .Λ) (fmOf 𝓤 H (W .laws) 𝓣) take-known next-known)
 
 pub byte-spec : {M : Type 1} → stated.statement M
@@ -254,4 +254,4 @@ byte-spec 𝓤 H 𝓜 𝓖 𝓡 =
     (tables 𝓤 H 𝓜 𝓡 code.env .C) (tables 𝓤 H 𝓜 𝓡 code.env .Λ) byte-name code.function (code.unfolded 𝓤 H 𝓜 𝓡)
     (byte-meets 𝓤 H (𝓖 .A) (givenOf 𝓤 H 𝓜 𝓖) (𝓜 .mem) (𝓡 .run) (tablesOf 𝓤 H 𝓜 (tables 𝓤 H 𝓜 𝓡 code.env))
     (cited 𝓤 H (Take 𝓤 H (𝓖 .A) (𝓜 .mem) (𝓡 .run)) 𝓜 𝓡 code.env take-name take-def.routine code.calls-lent-end·take (take-thm.met 𝓤 H 𝓜 𝓖 𝓡))
-    (cited 𝓤 H (Tell 𝓤 H (𝓖 .A) (𝓜 .mem) (𝓡 .run)) 𝓜 𝓡 code.env next-name next-def.routine code.calls-lent-end·tell (next-thm.met 𝓤 H 𝓜 𝓖 𝓡)))
+    (cited 𝓤 H (Message 𝓤 H (𝓖 .A) (𝓜 .mem) (𝓡 .run)) 𝓜 𝓡 code.env next-name next-def.routine code.calls-lent-end·receive-message (next-thm.met 𝓤 H 𝓜 𝓖 𝓡)))

@@ -35,7 +35,7 @@ use denote.Triple.Statement.{Triple}
 use denote.Triple.Call.{calls-from}
 use denote.Triple.Spec.{tripleOf}
 use denote.Triple.Table.{entered, cited}
-use Rattle.lent_end.specs.Lent.{brightEnd}
+use Rattle.lent_end.specs.Lent.{brightnessEnd}
 use Rattle.ump.specs.Word.{secondOf}
 use Rattle.receiving_end.specs.declared.end.End.{End}
 use Rattle.receiving_end.specs.declared.end.Reply.{Reply}
@@ -121,7 +121,7 @@ module _ {M : Type 1} (𝓤 : URA M) (H : Heap 𝓤) (A : Atoms 𝓤) (W : Given
   brightness = secondOf (t .word)
 
   abbrev bright : End
-  bright = brightEnd h t
+  bright = brightnessEnd h t
 
   module _ (was : Is T.the-row h (end-val h ∷ [])) where
     brights-are : Is (Array u8 16) (map same (h .receiver .brightness)) (arrayVal (machines (vint w8) same (h .receiver .brightness)) ∷ [])
@@ -150,15 +150,15 @@ module _ {M : Type 1} (𝓤 : URA M) (H : Heap 𝓤) (A : Atoms 𝓤) (W : Given
   spelled = ap (λ (us : List Val). putItems (end-val h) 2 6 us) (set-machines (vint w8) same (h .receiver .brightness) (t .channel % 16) brightness)
 
   walk : (C : Calls 𝓤 H) (Λ : Loops 𝓤 H) → FmC 𝓤 H (W .laws) C → Triple 𝓤 (C second-data-name) (Number 𝓤 H A w8 secondOf)
-      → ent 𝓤 (lending 𝓤 H A W brightEnd κ q b o γ h t reply t-is reply-is h) (WpFn 𝓤 H C Λ code.function (vptr b o ∷ taken-val t ∷ reply-val reply ∷ []) (Post 𝓤 H A W brightEnd κ q b o γ h t reply t-is reply-is))
+      → ent 𝓤 (lending 𝓤 H A W brightnessEnd κ q b o γ h t reply t-is reply-is h) (WpFn 𝓤 H C Λ code.function (vptr b o ∷ taken-val t ∷ reply-val reply ∷ []) (Post 𝓤 H A W brightnessEnd κ q b o γ h t reply t-is reply-is))
   walk C Λ fm second-data-known = walks 𝓤 H A W C Λ fm R′.mir (T.the-row .written .ty) Tk′.mir T′.mir b o
       refl refl refl refl refl refl
       _ _ _ _ _ _ (vint w32 (t .word)) (t .channel) _ (reply-val reply) _ _ _ _ _ _ _ _ (machines (vint w8) same (h .receiver .brightness)) (vint w8 brightness)
       (LL.lawful Tk.the-type Tk′.the-laws 𝓤 H A W .typed t _ t-is .0) (EL.lawful R.the-type R′.the-laws 𝓤 H A W tt .typed reply _ reply-is .0)
-      (lending 𝓤 H A W brightEnd κ q b o γ h t reply t-is reply-is h) (Post 𝓤 H A W brightEnd κ q b o γ h t reply t-is reply-is) (mean 𝓤 H A (L.holds 𝓤 H A W κ q b o γ h)) (Is T.the-row h (end-val h ∷ [])) (Is u8 brightness (vint w8 brightness ∷ []))
+      (lending 𝓤 H A W brightnessEnd κ q b o γ h t reply t-is reply-is h) (Post 𝓤 H A W brightnessEnd κ q b o γ h t reply t-is reply-is) (mean 𝓤 H A (L.holds 𝓤 H A W κ q b o γ h)) (Is T.the-row h (end-val h ∷ [])) (Is u8 brightness (vint w8 brightness ∷ []))
       (number 𝓤 H A W C second-data-name w8 secondOf second-data-known (t .word) word-fits) (λ is. (tt, record { fits = is .1 }))
       (L.opens-here 𝓤 H A W κ q b o γ h) brights-count
-      (λ was is. since W (L.closes-at 𝓤 H A W κ q b o γ h _ bright spelled (made was is)) (ends 𝓤 H A W brightEnd κ q b o γ h t reply t-is reply-is bright refl))
+      (λ was is. since W (L.closes-at 𝓤 H A W κ q b o γ h _ bright spelled (made was is)) (ends 𝓤 H A W brightnessEnd κ q b o γ h t reply t-is reply-is bright refl))
 
 pub store-brightness-spec : {M : Type 1} → stated.statement M
 unfolding code.routine tablesOf
@@ -167,5 +167,5 @@ store-brightness-spec 𝓤 H 𝓜 𝓖 𝓡 =
     let 𝓣 = tablesOf 𝓤 H 𝓜 (tables 𝓤 H 𝓜 𝓡 code.env) in
     entered 𝓤 H (tripleOf 𝓤 H (𝓖 .A) f.signature (f.spec 𝓤 H (𝓖 .A) (𝓜 .mem) (𝓡 .run)))
     (tables 𝓤 H 𝓜 𝓡 code.env .C) (tables 𝓤 H 𝓜 𝓡 code.env .Λ) store-brightness-name code.function (code.unfolded 𝓤 H 𝓜 𝓡)
-    (meets 𝓤 H (𝓖 .A) (givenOf 𝓤 H 𝓜 𝓖) brightEnd 𝓣 code.function
+    (meets 𝓤 H (𝓖 .A) (givenOf 𝓤 H 𝓜 𝓖) brightnessEnd 𝓣 code.function
     (λ κ q b o γ h t reply t-is reply-is fm. walk 𝓤 H (𝓖 .A) (givenOf 𝓤 H 𝓜 𝓖) κ q b o γ h t reply t-is reply-is (𝓣 .C) (𝓣 .Λ) fm second-known))

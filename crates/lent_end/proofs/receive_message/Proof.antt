@@ -1,4 +1,4 @@
--- `tell` meets its contract: a walk of its MIR, by hand. The borrow stays shut and is passed on for good, with the message, to `tell_brightness`, `tell_control` or `tell_voice`. All that the proof knows of the three is that they meet their contracts.
+-- `receive_message` meets its contract: a walk of its MIR, by hand. The borrow stays shut and is passed on for good, with the message, to `receive_brightness`, `receive_control` or `receive_other`. All that the proof knows of the three is that they meet their contracts.
 -- The walk is over MIR types that are variables; the real types are put in afterwards.
 -- Assumes nothing.
 use mathlib.Core.Path.{_≡_, refl, sym, _∙_}
@@ -25,7 +25,7 @@ use denote.Triple.Statement.{Triple}
 use denote.Triple.Call.{calls-from}
 use denote.Triple.Spec.{Meets, tripleOf}
 use denote.Triple.Table.{entered, cited}
-use Rattle.lent_end.specs.Lent.{toldReply, toldEnd, changedReply, changedEnd, controlReply, controlEnd, voiceReply, voicedEnd, brightEnd}
+use Rattle.lent_end.specs.Lent.{messageReply, messageEnd, changedReply, changedEnd, controlReply, controlEnd, eventReply, storedEnd, brightnessEnd}
 use Rattle.receiving_end.specs.declared.end.End.{End}
 use Rattle.receiving_end.specs.declared.end.Reply.{Reply}
 use Rattle.lent_end.specs.declared.Taken.{Taken}
@@ -37,19 +37,19 @@ use Rattle.receiving_end.proofs.end.Reply.Laws as R′
 use Rattle.lent_end.proofs.Taken as Tk
 use Rattle.lent_end.proofs.Taken.Laws as Tk′
 use Rattle.receiving_end.proofs.end.End.Laws as T′
-use Rattle.lent_end.proofs.tell_brightness.Symbol as bright-def
-use Rattle.lent_end.proofs.tell_brightness.Symbol.{name as bright-name}
-use Rattle.lent_end.proofs.tell_brightness.Met as bright-thm
-use Rattle.lent_end.proofs.tell_control.Symbol as control-def
-use Rattle.lent_end.proofs.tell_control.Symbol.{name as control-name}
-use Rattle.lent_end.proofs.tell_control.Met as control-thm
-use Rattle.lent_end.proofs.tell_voice.Symbol as voice-def
-use Rattle.lent_end.proofs.tell_voice.Symbol.{name as voice-name}
-use Rattle.lent_end.proofs.tell_voice.Met as voice-thm
-use Rattle.lent_end.proofs.tell.Key.{name as tell-name}
-use Rattle.lent_end.proofs.tell as f
-use Rattle.lent_end.proofs.tell.Statement as stated
-use Rattle.lent_end.proofs.tell.Code as code
+use Rattle.lent_end.proofs.receive_brightness.Symbol as bright-def
+use Rattle.lent_end.proofs.receive_brightness.Symbol.{name as bright-name}
+use Rattle.lent_end.proofs.receive_brightness.Met as bright-thm
+use Rattle.lent_end.proofs.receive_control.Symbol as control-def
+use Rattle.lent_end.proofs.receive_control.Symbol.{name as control-name}
+use Rattle.lent_end.proofs.receive_control.Met as control-thm
+use Rattle.lent_end.proofs.receive_other.Symbol as other-def
+use Rattle.lent_end.proofs.receive_other.Symbol.{name as other-name}
+use Rattle.lent_end.proofs.receive_other.Met as other-thm
+use Rattle.lent_end.proofs.receive_message.Key.{name as receive-message-name}
+use Rattle.lent_end.proofs.receive_message as f
+use Rattle.lent_end.proofs.receive_message.Statement as stated
+use Rattle.lent_end.proofs.receive_message.Code as code
 
 -- its MIR, over the types that it lays out (σ) and that it names (η)
 abbrev shape : S.Ty → S.Ty → S.Ty → S.Ty → S.Fn
@@ -70,7 +70,7 @@ shape σR ηT σTk σT = record {
       (S.seq (S.call control-name ((S.copy (S.place 6 ([]))) ∷ (S.copy (S.place 2 ([]))) ∷ []) (S.place 0 ([])))
       S.return))))
       (S.seq (S.assign (S.place 7 ([])) (S.addrOf (S.place 1 (S.deref σT ∷ []))))
-      (S.seq (S.call voice-name ((S.copy (S.place 7 ([]))) ∷ (S.copy (S.place 2 ([]))) ∷ []) (S.place 0 ([])))
+      (S.seq (S.call other-name ((S.copy (S.place 7 ([]))) ∷ (S.copy (S.place 2 ([]))) ∷ []) (S.place 0 ([])))
       S.return)))
       S.return));
 }
@@ -83,7 +83,7 @@ module _ {M : Type 1} (𝓤 : URA M) (H : Heap 𝓤) (A : Atoms 𝓤) (W : Given
     (P : SProp 𝓤) (Post : Val → SProp 𝓤)
     (brights : Holds control → Holds brightens → Passes H C bright-name (vptr b o ∷ (vstruct (vcons t₀ (vcons t₁ (vcons t₂ (vcons (vbool control) (vcons t₄ (vcons t₅ (vcons t₆ (vcons t₇ (vcons (vbool brightens) ts)))))))))) ∷ []) σR P Post)
     (controls : Holds control → Holds (not brightens) → Passes H C control-name (vptr b o ∷ (vstruct (vcons t₀ (vcons t₁ (vcons t₂ (vcons (vbool control) (vcons t₄ (vcons t₅ (vcons t₆ (vcons t₇ (vcons (vbool brightens) ts)))))))))) ∷ []) σR P Post)
-    (voices : Holds (not control) → Passes H C voice-name (vptr b o ∷ (vstruct (vcons t₀ (vcons t₁ (vcons t₂ (vcons (vbool control) (vcons t₄ (vcons t₅ (vcons t₆ (vcons t₇ (vcons (vbool brightens) ts)))))))))) ∷ []) σR P Post) where
+    (others : Holds (not control) → Passes H C other-name (vptr b o ∷ (vstruct (vcons t₀ (vcons t₁ (vcons t₂ (vcons (vbool control) (vcons t₄ (vcons t₅ (vcons t₆ (vcons t₇ (vcons (vbool brightens) ts)))))))))) ∷ []) σR P Post) where
   walks : ent 𝓤 P (WpFn 𝓤 H C Λ (shape σR ηT σTk σT) (vptr b o ∷ (vstruct (vcons t₀ (vcons t₁ (vcons t₂ (vcons (vbool control) (vcons t₄ (vcons t₅ (vcons t₆ (vcons t₇ (vcons (vbool brightens) ts)))))))))) ∷ []) Post)
   walks =
       qed W (raw P ∷ []) ∵ enter ! C Λ (shape σR ηT σTk σT) (vptr b o ∷ (vstruct (vcons t₀ (vcons t₁ (vcons t₂ (vcons (vbool control) (vcons t₄ (vcons t₅ (vcons t₆ (vcons t₇ (vcons (vbool brightens) ts)))))))))) ∷ []) Post $
@@ -97,22 +97,22 @@ module _ {M : Type 1} (𝓤 : URA M) (H : Heap 𝓤) (A : Atoms 𝓤) (W : Given
       (λ u. assigns ! (addr ! (from ! (hop ! (look ! 13 refl) (stop !)))) (from ! (stop !)) (init ! 3 refl (tt, tt)) $ use1 W (later (raw ((controls s u) .Ready))) ((controls s u) .ready) $ await ! tt $
       calls-from ! fm (raw ((controls s u) .Ready)) _ ((controls s u) .Q) ((controls s u) .met) (and-then ! (load ! (from ! (stop !)) (look ! 3 refl)) (and-then ! (load ! (from ! (stop !)) (look ! 11 refl)) (no-more !))) (λ v. use1 W (later (given (Typed σR v) (raw (Post v)))) ((controls s u) .answered v) $ await ! tt $ learn ! (λ typed.
       land ! (from ! (stop !)) (init ! 15 refl typed) $ returns-within ! Post refl (look ! 15 refl) $ forget ! 3 refl $ forget ! 7 refl $ forget ! 9 refl $ forget ! 11 refl $ forget ! 13 refl $ forget ! 15 refl $ move ! (15 ∷ 16 ∷ 13 ∷ 14 ∷ 11 ∷ 12 ∷ 9 ∷ 10 ∷ 7 ∷ 8 ∷ 5 ∷ 6 ∷ 3 ∷ 4 ∷ 1 ∷ 2 ∷ []) $ free1 ! $ free1 ! $ free1 ! $ free1 ! $ free1 ! $ free1 ! $ free1 ! $ free1 ! $ free0 ! $ done !))))
-      (λ s. assigns ! (addr ! (from ! (hop ! (look ! 13 refl) (stop !)))) (from ! (stop !)) (init ! 1 refl (tt, tt)) $ use1 W (later (raw ((voices s) .Ready))) ((voices s) .ready) $ await ! tt $
-      calls-from ! fm (raw ((voices s) .Ready)) _ ((voices s) .Q) ((voices s) .met) (and-then ! (load ! (from ! (stop !)) (look ! 1 refl)) (and-then ! (load ! (from ! (stop !)) (look ! 11 refl)) (no-more !))) (λ v. use1 W (later (given (Typed σR v) (raw (Post v)))) ((voices s) .answered v) $ await ! tt $ learn ! (λ typed.
+      (λ s. assigns ! (addr ! (from ! (hop ! (look ! 13 refl) (stop !)))) (from ! (stop !)) (init ! 1 refl (tt, tt)) $ use1 W (later (raw ((others s) .Ready))) ((others s) .ready) $ await ! tt $
+      calls-from ! fm (raw ((others s) .Ready)) _ ((others s) .Q) ((others s) .met) (and-then ! (load ! (from ! (stop !)) (look ! 1 refl)) (and-then ! (load ! (from ! (stop !)) (look ! 11 refl)) (no-more !))) (λ v. use1 W (later (given (Typed σR v) (raw (Post v)))) ((others s) .answered v) $ await ! tt $ learn ! (λ typed.
       land ! (from ! (stop !)) (init ! 15 refl typed) $ returns-within ! Post refl (look ! 15 refl) $ forget ! 1 refl $ forget ! 9 refl $ forget ! 11 refl $ forget ! 13 refl $ forget ! 15 refl $ move ! (15 ∷ 16 ∷ 13 ∷ 14 ∷ 11 ∷ 12 ∷ 9 ∷ 10 ∷ 7 ∷ 8 ∷ 5 ∷ 6 ∷ 3 ∷ 4 ∷ 1 ∷ 2 ∷ []) $ free1 ! $ free1 ! $ free1 ! $ free1 ! $ free1 ! $ free1 ! $ free1 ! $ free1 ! $ free0 ! $ done !)))))))))))
 
 -- what the four contracts say of the end and the message on entry, the reply, and the end on exit
 abbrev Says : End → Taken → Reply → End → Type 0
-Says h t r e = (r ≡ toldReply h t) × (e ≡ toldEnd h t)
+Says h t r e = (r ≡ messageReply h t) × (e ≡ messageEnd h t)
 
 abbrev Controls : End → Taken → Reply → End → Type 0
 Controls h t r e = (r ≡ controlReply h t) × (e ≡ controlEnd h t)
 
-abbrev Voices : End → Taken → Reply → End → Type 0
-Voices h t r e = (r ≡ voiceReply (h .receiver) (t .word)) × (e ≡ voicedEnd h t)
+abbrev Others : End → Taken → Reply → End → Type 0
+Others h t r e = (r ≡ eventReply (h .receiver) (t .word)) × (e ≡ storedEnd h t)
 
 abbrev Brights : End → Taken → Reply → End → Type 0
-Brights h t r e = (r ≡ voiceReply (h .receiver) (t .word)) × (e ≡ brightEnd h t)
+Brights h t r e = (r ≡ eventReply (h .receiver) (t .word)) × (e ≡ brightnessEnd h t)
 
 -- what the tests choose
 module _ (h : End) (t : Taken) (r : Reply) (e : End) where
@@ -120,19 +120,19 @@ module _ (h : End) (t : Taken) (r : Reply) (e : End) where
   Changes = (r ≡ changedReply h t) × (e ≡ changedEnd h t)
 
   changes-right : Holds (t .control) → Changes → Says h t r e
-  changes-right s said = (said .0 ∙ sym (taken (t .control) (changedReply h t) (voiceReply (h .receiver) (t .word)) s), said .1 ∙ sym (taken (t .control) (changedEnd h t) (voicedEnd h t) s))
+  changes-right s said = (said .0 ∙ sym (taken (t .control) (changedReply h t) (eventReply (h .receiver) (t .word)) s), said .1 ∙ sym (taken (t .control) (changedEnd h t) (storedEnd h t) s))
 
   brights-right : Holds (t .control) → Holds (t .brightens) → Brights h t r e → Says h t r e
-  brights-right s u said = changes-right s (said .0 ∙ sym (taken (t .brightens) (voiceReply (h .receiver) (t .word)) (controlReply h t) u), said .1 ∙ sym (taken (t .brightens) (brightEnd h t) (controlEnd h t) u))
+  brights-right s u said = changes-right s (said .0 ∙ sym (taken (t .brightens) (eventReply (h .receiver) (t .word)) (controlReply h t) u), said .1 ∙ sym (taken (t .brightens) (brightnessEnd h t) (controlEnd h t) u))
 
   controls-right : Holds (t .control) → Holds (not (t .brightens)) → Controls h t r e → Says h t r e
-  controls-right s u said = changes-right s (said .0 ∙ sym (untaken (t .brightens) (voiceReply (h .receiver) (t .word)) (controlReply h t) u), said .1 ∙ sym (untaken (t .brightens) (brightEnd h t) (controlEnd h t) u))
+  controls-right s u said = changes-right s (said .0 ∙ sym (untaken (t .brightens) (eventReply (h .receiver) (t .word)) (controlReply h t) u), said .1 ∙ sym (untaken (t .brightens) (brightnessEnd h t) (controlEnd h t) u))
 
-  voices-right : Holds (not (t .control)) → Voices h t r e → Says h t r e
-  voices-right s said = (said .0 ∙ sym (untaken (t .control) (changedReply h t) (voiceReply (h .receiver) (t .word)) s), said .1 ∙ sym (untaken (t .control) (changedEnd h t) (voicedEnd h t) s))
+  others-right : Holds (not (t .control)) → Others h t r e → Says h t r e
+  others-right s said = (said .0 ∙ sym (untaken (t .control) (changedReply h t) (eventReply (h .receiver) (t .word)) s), said .1 ∙ sym (untaken (t .control) (changedEnd h t) (storedEnd h t) s))
 
-tell-meets : {M : Type 1} (𝓤 : URA M) (H : Heap 𝓤) (A : Atoms 𝓤) → Given 𝓤 H A → (𝓣 : Tables 𝓤 H) → Triple 𝓤 (𝓣 .C bright-name) (Onto 𝓤 H A Brights) → Triple 𝓤 (𝓣 .C control-name) (Onto 𝓤 H A Controls) → Triple 𝓤 (𝓣 .C voice-name) (Onto 𝓤 H A Voices) → Meets 𝓤 H A signature (WpFn 𝓤 H (𝓣 .C) (𝓣 .Λ) code.function) (spec 𝓤 H A Says)
-tell-meets 𝓤 H A W 𝓣 bright-known control-known voice-known = meets 𝓤 H A W Says 𝓣 code.function (λ κ q b o γ h t t-is fm.
+receive-message-meets : {M : Type 1} (𝓤 : URA M) (H : Heap 𝓤) (A : Atoms 𝓤) → Given 𝓤 H A → (𝓣 : Tables 𝓤 H) → Triple 𝓤 (𝓣 .C bright-name) (Onto 𝓤 H A Brights) → Triple 𝓤 (𝓣 .C control-name) (Onto 𝓤 H A Controls) → Triple 𝓤 (𝓣 .C other-name) (Onto 𝓤 H A Others) → Meets 𝓤 H A signature (WpFn 𝓤 H (𝓣 .C) (𝓣 .Λ) code.function) (spec 𝓤 H A Says)
+receive-message-meets 𝓤 H A W 𝓣 bright-known control-known other-known = meets 𝓤 H A W Says 𝓣 code.function (λ κ q b o γ h t t-is fm.
     walks 𝓤 H A W (𝓣 .C) (𝓣 .Λ) fm R′.mir (T.the-row .written .ty) Tk′.mir T′.mir b o
     refl refl
     _ _ _ (t .control) _ _ _ _ (t .brightens) _
@@ -140,14 +140,14 @@ tell-meets 𝓤 H A W 𝓣 bright-known control-known voice-known = meets 𝓤 H
     (lending 𝓤 H A W Says κ q b o γ h t t-is) (Post 𝓤 H A W Says κ q b o γ h t t-is)
     (λ s u. passes 𝓤 H A W Says κ q b o γ h t t-is (𝓣 .C) bright-name Brights bright-known (λ r e. brights-right h t r e s u))
     (λ s u. passes 𝓤 H A W Says κ q b o γ h t t-is (𝓣 .C) control-name Controls control-known (λ r e. controls-right h t r e s u))
-    (λ s. passes 𝓤 H A W Says κ q b o γ h t t-is (𝓣 .C) voice-name Voices voice-known (λ r e. voices-right h t r e s)))
+    (λ s. passes 𝓤 H A W Says κ q b o γ h t t-is (𝓣 .C) other-name Others other-known (λ r e. others-right h t r e s)))
 
-pub tell-spec : {M : Type 1} → stated.statement M
+pub receive-message-spec : {M : Type 1} → stated.statement M
 unfolding code.routine tablesOf
-tell-spec 𝓤 H 𝓜 𝓖 𝓡 =
+receive-message-spec 𝓤 H 𝓜 𝓖 𝓡 =
     entered 𝓤 H (tripleOf 𝓤 H (𝓖 .A) f.signature (f.spec 𝓤 H (𝓖 .A) (𝓜 .mem) (𝓡 .run)))
-    (tables 𝓤 H 𝓜 𝓡 code.env .C) (tables 𝓤 H 𝓜 𝓡 code.env .Λ) tell-name code.function (code.unfolded 𝓤 H 𝓜 𝓡)
-    (tell-meets 𝓤 H (𝓖 .A) (givenOf 𝓤 H 𝓜 𝓖) (tablesOf 𝓤 H 𝓜 (tables 𝓤 H 𝓜 𝓡 code.env))
-    (cited 𝓤 H (Onto 𝓤 H (𝓖 .A) Brights) 𝓜 𝓡 code.env bright-name bright-def.routine code.calls-lent-end·tell-brightness (bright-thm.met 𝓤 H 𝓜 𝓖 𝓡))
-    (cited 𝓤 H (Onto 𝓤 H (𝓖 .A) Controls) 𝓜 𝓡 code.env control-name control-def.routine code.calls-lent-end·tell-control (control-thm.met 𝓤 H 𝓜 𝓖 𝓡))
-    (cited 𝓤 H (Onto 𝓤 H (𝓖 .A) Voices) 𝓜 𝓡 code.env voice-name voice-def.routine code.calls-lent-end·tell-voice (voice-thm.met 𝓤 H 𝓜 𝓖 𝓡)))
+    (tables 𝓤 H 𝓜 𝓡 code.env .C) (tables 𝓤 H 𝓜 𝓡 code.env .Λ) receive-message-name code.function (code.unfolded 𝓤 H 𝓜 𝓡)
+    (receive-message-meets 𝓤 H (𝓖 .A) (givenOf 𝓤 H 𝓜 𝓖) (tablesOf 𝓤 H 𝓜 (tables 𝓤 H 𝓜 𝓡 code.env))
+    (cited 𝓤 H (Onto 𝓤 H (𝓖 .A) Brights) 𝓜 𝓡 code.env bright-name bright-def.routine code.calls-lent-end·receive-brightness (bright-thm.met 𝓤 H 𝓜 𝓖 𝓡))
+    (cited 𝓤 H (Onto 𝓤 H (𝓖 .A) Controls) 𝓜 𝓡 code.env control-name control-def.routine code.calls-lent-end·receive-control (control-thm.met 𝓤 H 𝓜 𝓖 𝓡))
+    (cited 𝓤 H (Onto 𝓤 H (𝓖 .A) Others) 𝓜 𝓡 code.env other-name other-def.routine code.calls-lent-end·receive-other (other-thm.met 𝓤 H 𝓜 𝓖 𝓡)))

@@ -1,4 +1,4 @@
--- `store_voice` meets its contract: a walk of its MIR, by hand. The borrow is opened; a bend or a pressure is read in the word and written over the channel's, where it stands; and the borrow is closed. All that the proof knows of `Midi1PitchBend::value` and `first_data` is that they meet their contracts.
+-- `store_control` meets its contract: a walk of its MIR, by hand. The borrow is opened; a bend or a pressure is read in the word and written over the channel's, where it stands; and the borrow is closed. All that the proof knows of `bend_in` and `first_data` is that they meet their contracts.
 -- The walk is over MIR types that are variables; the real types are put in afterwards.
 -- Assumes nothing.
 use mathlib.Core.Path.{_≡_, refl, sym, ap, _∙_, subst}
@@ -37,7 +37,7 @@ use denote.Triple.Statement.{Triple}
 use denote.Triple.Call.{calls-from}
 use denote.Triple.Spec.{tripleOf}
 use denote.Triple.Table.{entered, cited}
-use Rattle.lent_end.specs.Lent.{voicedEnd}
+use Rattle.lent_end.specs.Lent.{storedEnd}
 use Rattle.ump.specs.Choice.{if_then_else_}
 use Rattle.ump.specs.Word.{firstOf, bendOf}
 use Rattle.receiving_end.specs.declared.end.End.{End}
@@ -57,16 +57,16 @@ use Rattle.lent_end.proofs.Taken as Tk
 use Rattle.lent_end.proofs.Taken.Laws as Tk′
 use Rattle.mpe_receiver.proofs.MpeReceiver as Rv
 use Rattle.mpe_receiver.proofs.MpeReceiver.Laws as Rv′
-use Rattle.ump.proofs.channel_voice1.Midi1PitchBend.value.Symbol as bend-value-def
-use Rattle.ump.proofs.channel_voice1.Midi1PitchBend.value.Symbol.{name as bend-value-name}
-use Rattle.ump.proofs.channel_voice1.Midi1PitchBend.value.Met as bend-value-thm
+use Rattle.lent_end.proofs.bend_in.Symbol as bend-in-def
+use Rattle.lent_end.proofs.bend_in.Symbol.{name as bend-in-name}
+use Rattle.lent_end.proofs.bend_in.Met as bend-in-thm
 use Rattle.ump.proofs.channel_voice1.first_data.Symbol as first-data-def
 use Rattle.ump.proofs.channel_voice1.first_data.Symbol.{name as first-data-name}
 use Rattle.ump.proofs.channel_voice1.first_data.Met as first-data-thm
-use Rattle.lent_end.proofs.store_voice.Key.{name as store-voice-name}
-use Rattle.lent_end.proofs.store_voice as f
-use Rattle.lent_end.proofs.store_voice.Statement as stated
-use Rattle.lent_end.proofs.store_voice.Code as code
+use Rattle.lent_end.proofs.store_control.Key.{name as store-control-name}
+use Rattle.lent_end.proofs.store_control as f
+use Rattle.lent_end.proofs.store_control.Statement as stated
+use Rattle.lent_end.proofs.store_control.Code as code
 
 -- its MIR, over the types that it lays out (σ) and that it names (η)
 abbrev shape : S.Ty → S.Ty → S.Ty → S.Ty → S.Fn
@@ -79,7 +79,7 @@ shape σR ηT σTk σT = record {
       (S.seq (S.assign (S.place 4 ([])) (S.op2 (S.rem S.unsigned) (S.copy (S.place 2 (S.field 7 ∷ []))) (S.int w64 16)))
       (S.seq (S.assign (S.place 5 ([])) (S.rvOpd (S.copy (S.place 2 (S.field 4 ∷ [])))))
       (S.seq (S.cond (S.copy (S.place 5 ([])))
-      (S.seq (S.call bend-value-name ((S.copy (S.place 2 (S.field 6 ∷ []))) ∷ []) (S.place 6 ([])))
+      (S.seq (S.call bend-in-name ((S.copy (S.place 2 (S.field 6 ∷ []))) ∷ []) (S.place 6 ([])))
       (S.seq (S.assign (S.place 7 ([])) (S.op2 (S.mul S.unsigned) (S.copy (S.place 4 ([]))) (S.int w64 2)))
       (S.seq (S.assign (S.place 8 ([])) (S.addrOf (S.place 1 (S.deref σT ∷ S.field 2 ∷ S.field 4 ∷ []))))
       (S.seq (S.assign (S.place 9 ([])) (S.op2 S.offset (S.copy (S.place 8 ([]))) (S.copy (S.place 7 ([])))))
@@ -105,7 +105,7 @@ module _ {M : Type 1} (𝓤 : URA M) (H : Heap 𝓤) (A : Atoms 𝓤) (W : Given
     (t₀ t₁ t₂ t₃ : Val) (bends presses : Bool) (t₆ : Val) (n : ℕ) (ts : Vals) (reply e₀ e₁ r₀ r₁ r₂ r₃ : Val) (bs ps : List Val) (r₆ bent pressed : Val)
     (t-typed : Typed σTk (vstruct (vcons t₀ (vcons t₁ (vcons t₂ (vcons t₃ (vcons (vbool bends) (vcons (vbool presses) (vcons t₆ (vcons (vint w64 n) ts)))))))))) (n-fits : n < 2 ^ 64) (reply-typed : Typed σR reply)
     (P : SProp 𝓤) (Post : Val → SProp 𝓤) (Rest : SProp 𝓤) (Was φ ψ : Type 0)
-    (bend-value : Gives H C bend-value-name (t₆ ∷ []) bent φ) (bent-typed : φ → Typed (S.tyInt w16) bent) (first-data : Gives H C first-data-name (t₆ ∷ []) pressed ψ) (pressed-typed : ψ → Typed (S.tyInt w8) pressed)
+    (bend-in : Gives H C bend-in-name (t₆ ∷ []) bent φ) (bent-typed : φ → Typed (S.tyInt w16) bent) (first-data : Gives H C first-data-name (t₆ ∷ []) pressed ψ) (pressed-typed : ψ → Typed (S.tyInt w8) pressed)
     (opens-up : ent 𝓤 P (H .⇛ (guard 𝓤 Was (sep 𝓤 (H .at fullShare (rawTy σT) b o (vstruct (vcons e₀ (vcons e₁ (vcons (vstruct (vcons r₀ (vcons r₁ (vcons r₂ (vcons r₃ (vcons (vstruct (ofList bs)) (vcons (vstruct (ofList ps)) (vcons r₆ vnil)))))))) vnil))))) Rest)))) (bends-count : Was → length bs ≡ 16) (pressures-count : Was → length ps ≡ 16)
     (bent-left : Was → φ → Holds bends → ent 𝓤 (sep 𝓤 (H .at fullShare (rawTy σT) b o (vstruct (vcons e₀ (vcons e₁ (vcons (vstruct (vcons r₀ (vcons r₁ (vcons r₂ (vcons r₃ (vcons (vstruct (ofList (set bs (n % 16) bent))) (vcons (vstruct (ofList ps)) (vcons r₆ vnil)))))))) vnil))))) Rest) (H .⇛ (Post reply)))
     (pressed-left : Was → ψ → Holds (not bends) → Holds presses → ent 𝓤 (sep 𝓤 (H .at fullShare (rawTy σT) b o (vstruct (vcons e₀ (vcons e₁ (vcons (vstruct (vcons r₀ (vcons r₁ (vcons r₂ (vcons r₃ (vcons (vstruct (ofList bs)) (vcons (vstruct (ofList (set ps (n % 16) pressed))) (vcons r₆ vnil)))))))) vnil))))) Rest) (H .⇛ (Post reply)))
@@ -132,7 +132,7 @@ module _ {M : Type 1} (𝓤 : URA M) (H : Heap 𝓤) (A : Atoms 𝓤) (W : Given
       -- [what is lent; the last local; …; the first; …]
       use1 W (later (given Was (‵ (fat fullShare (rawTy σT) b o (vstruct (vcons e₀ (vcons e₁ (vcons (vstruct (vcons r₀ (vcons r₁ (vcons r₂ (vcons r₃ (vcons (vstruct (ofList bs)) (vcons (vstruct (ofList ps)) (vcons r₆ vnil)))))))) vnil))))) ⊛ raw Rest))) opens-up $ await ! tt $ learn ! (λ was. split ! $
       assigns ! (bin ! (load ! (from ! (fld ! at₇ (stop !))) (look-in ! 24 (member ! 7 at₇ (whole !)))) (lit ! tt) sixteen) (from ! (stop !)) (init ! 20 refl (tt, record { fits = k-fits })) $ assigns ! (of-opd ! (load ! (from ! (fld ! at₄ (stop !))) (look-in ! 24 (member ! 4 at₄ (whole !))))) (from ! (stop !)) (init ! 18 refl (tt, tt)) $ first ! $ branches ! (load ! (from ! (stop !)) (look ! 18 refl))
-      (λ s. use0 W (raw ((bend-value) .Ready)) ((bend-value) .ready) $ calls-from ! fm (raw ((bend-value) .Ready)) _ ((bend-value) .Q) ((bend-value) .met) (and-then ! (load ! (from ! (fld ! at₆ (stop !))) (look-in ! 25 (member ! 6 at₆ (whole !)))) (no-more !)) (λ u. use1 W (later (raw (fact 𝓤 ((u ≡ bent) × φ)))) ((bend-value) .answered u) $ await ! tt $
+      (λ s. use0 W (raw ((bend-in) .Ready)) ((bend-in) .ready) $ calls-from ! fm (raw ((bend-in) .Ready)) _ ((bend-in) .Q) ((bend-in) .met) (and-then ! (load ! (from ! (fld ! at₆ (stop !))) (look-in ! 25 (member ! 6 at₆ (whole !)))) (no-more !)) (λ u. use1 W (later (raw (fact 𝓤 ((u ≡ bent) × φ)))) ((bend-in) .answered u) $ await ! tt $
       heard ! ((u ≡ bent) × φ) (λ known. land ! (from ! (stop !)) (init ! 16 refl (subst (Typed (S.tyInt w16)) (sym (known .0)) (bent-typed (known .1)))) $ rewrite ! 16 (λ (y : Val). ‵ (fat fullShare (S.tyInt w16) l₆ 0 y)) (known .0) refl $
       assigns ! (bin ! (load ! (from ! (stop !)) (look ! 20 refl)) (lit ! tt) (record { fits = k2-fits })) (from ! (stop !)) (init ! 14 refl (tt, record { fits = k2-fits })) $
       assigns ! (addr ! (from ! (hop ! (look ! 26 refl) (fld ! receiver-at (fld ! bends-at (stop !)))))) (from ! (stop !)) (init ! 12 refl (tt, tt)) $ assigns ! (bin ! (load ! (from ! (stop !)) (look ! 12 refl)) (load ! (from ! (stop !)) (look ! 14 refl)) tt) (from ! (stop !)) (init ! 10 refl (tt, tt)) $
@@ -167,13 +167,13 @@ module _ {M : Type 1} (𝓤 : URA M) (H : Heap 𝓤) (A : Atoms 𝓤) (W : Given
   abbrev pressed : End
   pressed = record { reader = h .reader; parameters = h .parameters; receiver = record { layout = h .receiver .layout; «lower_mono» = h .receiver .«lower_mono»; «upper_mono» = h .receiver .«upper_mono»; sensitivity = h .receiver .sensitivity; «pitch_bend» = h .receiver .«pitch_bend»; pressure = set (h .receiver .pressure) slot pressure; brightness = h .receiver .brightness } }
 
-  bent-right : Holds (t .bends) → bent ≡ voicedEnd h t
+  bent-right : Holds (t .bends) → bent ≡ storedEnd h t
   bent-right s = sym (taken (t .bends) bent (if t .presses then pressed else h) s)
 
-  pressed-right : Holds (not (t .bends)) → Holds (t .presses) → pressed ≡ voicedEnd h t
+  pressed-right : Holds (not (t .bends)) → Holds (t .presses) → pressed ≡ storedEnd h t
   pressed-right s u = sym (untaken (t .bends) bent (if t .presses then pressed else h) s ∙ taken (t .presses) pressed h u)
 
-  same-right : Holds (not (t .bends)) → Holds (not (t .presses)) → h ≡ voicedEnd h t
+  same-right : Holds (not (t .bends)) → Holds (not (t .presses)) → h ≡ storedEnd h t
   same-right s u = sym (untaken (t .bends) bent (if t .presses then pressed else h) s ∙ untaken (t .presses) pressed h u)
 
   module _ (was : Is T.the-row h (end-val h ∷ [])) where
@@ -227,30 +227,30 @@ module _ {M : Type 1} (𝓤 : URA M) (H : Heap 𝓤) (A : Atoms 𝓤) (W : Given
   pressed-spelled : putItems (end-val h) 2 5 (set (machines (vint w8) same (h .receiver .pressure)) slot (vint w8 pressure)) ≡ end-val pressed
   pressed-spelled = ap (λ (us : List Val). putItems (end-val h) 2 5 us) (set-machines (vint w8) same (h .receiver .pressure) slot pressure)
 
-  after : (e : End) → e ≡ voicedEnd h t → ent 𝓤 (mean 𝓤 H A (L.lends 𝓤 H A W κ q b o γ e)) (H .⇛ (Post 𝓤 H A W voicedEnd κ q b o γ h t reply t-is reply-is (reply-val reply)))
-  after = ends 𝓤 H A W voicedEnd κ q b o γ h t reply t-is reply-is
+  after : (e : End) → e ≡ storedEnd h t → ent 𝓤 (mean 𝓤 H A (L.lends 𝓤 H A W κ q b o γ e)) (H .⇛ (Post 𝓤 H A W storedEnd κ q b o γ h t reply t-is reply-is (reply-val reply)))
+  after = ends 𝓤 H A W storedEnd κ q b o γ h t reply t-is reply-is
 
-  walk : (C : Calls 𝓤 H) (Λ : Loops 𝓤 H) → FmC 𝓤 H (W .laws) C → Triple 𝓤 (C bend-value-name) (Number 𝓤 H A w16 bendOf) → Triple 𝓤 (C first-data-name) (Number 𝓤 H A w8 firstOf)
-      → ent 𝓤 (lending 𝓤 H A W voicedEnd κ q b o γ h t reply t-is reply-is h) (WpFn 𝓤 H C Λ code.function (vptr b o ∷ taken-val t ∷ reply-val reply ∷ []) (Post 𝓤 H A W voicedEnd κ q b o γ h t reply t-is reply-is))
-  walk C Λ fm bend-value-known first-data-known =
+  walk : (C : Calls 𝓤 H) (Λ : Loops 𝓤 H) → FmC 𝓤 H (W .laws) C → Triple 𝓤 (C bend-in-name) (Number 𝓤 H A w16 bendOf) → Triple 𝓤 (C first-data-name) (Number 𝓤 H A w8 firstOf)
+      → ent 𝓤 (lending 𝓤 H A W storedEnd κ q b o γ h t reply t-is reply-is h) (WpFn 𝓤 H C Λ code.function (vptr b o ∷ taken-val t ∷ reply-val reply ∷ []) (Post 𝓤 H A W storedEnd κ q b o γ h t reply t-is reply-is))
+  walk C Λ fm bend-in-known first-data-known =
       walks 𝓤 H A W C Λ fm R′.mir (T.the-row .written .ty) Tk′.mir T′.mir b o
       refl refl refl refl refl refl refl refl refl refl
       _ _ _ _ (t .bends) (t .presses) (vint w32 (t .word)) (t .channel) _ (reply-val reply) _ _ _ _ _ _ (machines (vint w16) same (h .receiver .«pitch_bend»)) (machines (vint w8) same (h .receiver .pressure)) _ (vint w16 bend) (vint w8 pressure)
       (LL.lawful Tk.the-type Tk′.the-laws 𝓤 H A W .typed t _ t-is .0) channel-fits (EL.lawful R.the-type R′.the-laws 𝓤 H A W tt .typed reply _ reply-is .0)
-      (lending 𝓤 H A W voicedEnd κ q b o γ h t reply t-is reply-is h) (Post 𝓤 H A W voicedEnd κ q b o γ h t reply t-is reply-is) (mean 𝓤 H A (L.holds 𝓤 H A W κ q b o γ h)) (Is T.the-row h (end-val h ∷ [])) (Is u16 bend (vint w16 bend ∷ [])) (Is u8 pressure (vint w8 pressure ∷ []))
-      (number 𝓤 H A W C bend-value-name w16 bendOf bend-value-known (t .word) word-fits) (λ is. (tt, record { fits = is .1 })) (number 𝓤 H A W C first-data-name w8 firstOf first-data-known (t .word) word-fits) (λ is. (tt, record { fits = is .1 }))
+      (lending 𝓤 H A W storedEnd κ q b o γ h t reply t-is reply-is h) (Post 𝓤 H A W storedEnd κ q b o γ h t reply t-is reply-is) (mean 𝓤 H A (L.holds 𝓤 H A W κ q b o γ h)) (Is T.the-row h (end-val h ∷ [])) (Is u16 bend (vint w16 bend ∷ [])) (Is u8 pressure (vint w8 pressure ∷ []))
+      (number 𝓤 H A W C bend-in-name w16 bendOf bend-in-known (t .word) word-fits) (λ is. (tt, record { fits = is .1 })) (number 𝓤 H A W C first-data-name w8 firstOf first-data-known (t .word) word-fits) (λ is. (tt, record { fits = is .1 }))
       (L.opens-here 𝓤 H A W κ q b o γ h) bends-count pressures-count
       (λ was is s. since W (L.closes-at 𝓤 H A W κ q b o γ h _ bent bent-spelled (bent-made was is)) (after bent (bent-right s)))
       (λ was is s u. since W (L.closes-at 𝓤 H A W κ q b o γ h _ pressed pressed-spelled (pressed-made was is)) (after pressed (pressed-right s u)))
       (λ was s u. since W (L.closes-at 𝓤 H A W κ q b o γ h _ h refl was) (after h (same-right s u)))
 
-pub store-voice-spec : {M : Type 1} → stated.statement M
+pub store-control-spec : {M : Type 1} → stated.statement M
 unfolding code.routine tablesOf
-store-voice-spec 𝓤 H 𝓜 𝓖 𝓡 =
-    let bends-known = cited 𝓤 H (Number 𝓤 H (𝓖 .A) w16 bendOf) 𝓜 𝓡 code.env bend-value-name bend-value-def.routine code.calls-ump·channel-voice1·Midi1PitchBend·value (bend-value-thm.met 𝓤 H 𝓜 𝓖 𝓡) in
+store-control-spec 𝓤 H 𝓜 𝓖 𝓡 =
+    let bends-known = cited 𝓤 H (Number 𝓤 H (𝓖 .A) w16 bendOf) 𝓜 𝓡 code.env bend-in-name bend-in-def.routine code.calls-lent-end·bend-in (bend-in-thm.met 𝓤 H 𝓜 𝓖 𝓡) in
     let first-known = cited 𝓤 H (Number 𝓤 H (𝓖 .A) w8 firstOf) 𝓜 𝓡 code.env first-data-name first-data-def.routine code.calls-ump·channel-voice1·first-data (first-data-thm.met 𝓤 H 𝓜 𝓖 𝓡) in
     let 𝓣 = tablesOf 𝓤 H 𝓜 (tables 𝓤 H 𝓜 𝓡 code.env) in
     entered 𝓤 H (tripleOf 𝓤 H (𝓖 .A) f.signature (f.spec 𝓤 H (𝓖 .A) (𝓜 .mem) (𝓡 .run)))
-    (tables 𝓤 H 𝓜 𝓡 code.env .C) (tables 𝓤 H 𝓜 𝓡 code.env .Λ) store-voice-name code.function (code.unfolded 𝓤 H 𝓜 𝓡)
-    (meets 𝓤 H (𝓖 .A) (givenOf 𝓤 H 𝓜 𝓖) voicedEnd 𝓣 code.function
+    (tables 𝓤 H 𝓜 𝓡 code.env .C) (tables 𝓤 H 𝓜 𝓡 code.env .Λ) store-control-name code.function (code.unfolded 𝓤 H 𝓜 𝓡)
+    (meets 𝓤 H (𝓖 .A) (givenOf 𝓤 H 𝓜 𝓖) storedEnd 𝓣 code.function
     (λ κ q b o γ h t reply t-is reply-is fm. walk 𝓤 H (𝓖 .A) (givenOf 𝓤 H 𝓜 𝓖) κ q b o γ h t reply t-is reply-is (𝓣 .C) (𝓣 .Λ) fm bends-known first-known))

@@ -1,4 +1,4 @@
--- `tell_parameter` meets its contract: a walk of its MIR, by hand. The borrow is opened; the channel's parameters are written over, where they stand; and the borrow is closed and passed on for good to `tell_receiver`. All that the proof knows of `tell_receiver` is that it meets its contract.
+-- `store_parameter` meets its contract: a walk of its MIR, by hand. The borrow is opened; the channel's parameters are written over, where they stand; and the borrow is closed and passed on for good to `update_receiver`. All that the proof knows of `update_receiver` is that it meets its contract.
 -- The walk is over MIR types that are variables; the real types are put in afterwards.
 -- Assumes nothing.
 use mathlib.Core.Path.{_≡_, refl, ap}
@@ -42,7 +42,7 @@ use denote.Triple.Spec.{Meets, tripleOf}
 use denote.Triple.Table.{entered, cited}
 use denote.Triple.Walked.{says, Stays, gave-ref, stay-none, walkOf, AllGo, goes-none, goes-gave-ref, Walks, ends-at, walked, walk-meets}
 use denote.Exit.{yes}
-use Rattle.lent_end.specs.Lent.{receiverEnd, parameterEnd}
+use Rattle.lent_end.specs.Lent.{updatedReply, updatedEnd, parameterEnd}
 use Rattle.receiving_end.specs.End.{withParameter}
 use Rattle.receiving_end.specs.declared.end.End.{End}
 use Rattle.receiving_end.specs.declared.end.Reply.{Reply}
@@ -63,14 +63,14 @@ use Rattle.byte_reader.proofs.Reader as Rd
 use Rattle.byte_reader.proofs.Reader.Laws as Rd′
 use Rattle.mpe_receiver.proofs.MpeReceiver as Rv
 use Rattle.mpe_receiver.proofs.MpeReceiver.Laws as Rv′
-use Rattle.lent_end.proofs.tell_receiver as next
-use Rattle.lent_end.proofs.tell_receiver.Symbol as next-def
-use Rattle.lent_end.proofs.tell_receiver.Symbol.{name as next-name}
-use Rattle.lent_end.proofs.tell_receiver.Met as next-thm
-use Rattle.lent_end.proofs.tell_parameter.Key.{name as tell-parameter-name}
-use Rattle.lent_end.proofs.tell_parameter as f
-use Rattle.lent_end.proofs.tell_parameter.Statement as stated
-use Rattle.lent_end.proofs.tell_parameter.Code as code
+use Rattle.lent_end.proofs.update_receiver as next
+use Rattle.lent_end.proofs.update_receiver.Symbol as next-def
+use Rattle.lent_end.proofs.update_receiver.Symbol.{name as next-name}
+use Rattle.lent_end.proofs.update_receiver.Met as next-thm
+use Rattle.lent_end.proofs.store_parameter.Key.{name as store-parameter-name}
+use Rattle.lent_end.proofs.store_parameter as f
+use Rattle.lent_end.proofs.store_parameter.Statement as stated
+use Rattle.lent_end.proofs.store_parameter.Code as code
 
 -- its MIR, over the types that it lays out (σ) and that it names (η)
 abbrev shape : S.Ty → S.Ty → S.Ty → S.Ty → S.Ty → S.Fn
@@ -147,7 +147,7 @@ module _ {M : Type 1} (𝓤 : URA M) (H : Heap 𝓤) (A : Atoms 𝓤) (W : Given
   Post = walkOf 𝓤 H A f.ended stayed (f.clauses 𝓤 H A at-mem run) .post (((κ, tt), (q, tt), tt, x, at), tt)
 
   abbrev Right : Reply → End → Type 0
-  Right r e = (r ≡ c .reply) × (e ≡ parameterEnd h word channel c)
+  Right r e = (r ≡ updatedReply h word c) × (e ≡ parameterEnd h word channel c)
 
   abbrev lending : End → SProp 𝓤
   lending e = mean 𝓤 H A (L.lends 𝓤 H A W κ q b o γ e)
@@ -181,13 +181,13 @@ module _ {M : Type 1} (𝓤 : URA M) (H : Heap 𝓤) (A : Atoms 𝓤) (W : Given
   spelled = ap (λ (us : List Val). (vstruct (vcons (LL.val Rd.the-type Rd′.the-laws (h .reader)) (vcons (arrayVal us) (vcons (LL.val Rv.the-type Rv′.the-laws (h .receiver)) vnil))))) (L.put-parameter h (channel % 16) (c .state))
 
   module _ (C : Calls 𝓤 H) (Λ : Loops 𝓤 H) (fm : FmC 𝓤 H (W .laws) C) (next-known : Triple 𝓤 (C next-name) (Receiver 𝓤 H A at-mem run)) where
-    next-passes : (e₁ : End) (word₁ : ℕ) (c₁ : Controlled) (word₁-fits : word₁ < 2 ^ 32) (c₁-is : Is Ct.the-row c₁ ((LL.val Ct.the-type Ct′.the-laws c₁) ∷ [])) → ((r : Reply) (e : End) → (r ≡ c₁ .reply) × (e ≡ receiverEnd e₁ word₁ c₁) → Right r e) → Passes H C next-name (vptr b o ∷ (vint w32 word₁) ∷ (LL.val Ct.the-type Ct′.the-laws c₁) ∷ []) R′.mir (lending e₁) Post
+    next-passes : (e₁ : End) (word₁ : ℕ) (c₁ : Controlled) (word₁-fits : word₁ < 2 ^ 32) (c₁-is : Is Ct.the-row c₁ ((LL.val Ct.the-type Ct′.the-laws c₁) ∷ [])) → ((r : Reply) (e : End) → (r ≡ updatedReply e₁ word₁ c₁) × (e ≡ updatedEnd e₁ word₁ c₁) → Right r e) → Passes H C next-name (vptr b o ∷ (vint w32 word₁) ∷ (LL.val Ct.the-type Ct′.the-laws c₁) ∷ []) R′.mir (lending e₁) Post
     next-passes e₁ word₁ c₁ word₁-fits c₁-is right = record {
       Ready = Receiver 𝓤 H A at-mem run .pre (next-to e₁ word₁ c₁);
       Q = Receiver 𝓤 H A at-mem run .post (next-to e₁ word₁ c₁);
       ready = qed W (L.lends 𝓤 H A W κ q b o γ e₁ ∷ []) ∵ updating ! $ now ! $ split ! $ nothing ! $ owned ! Ct.the-row (Is Ct.the-row) (LL.makes Ct.the-type Ct′.the-plain 𝓤 H A) c₁ _ c₁-is $ fjoin ! $ owned ! u32 (Is u32) (uint-makes 𝓤 H A W w32) word₁ _ (refl, word₁-fits) $ fjoin ! $ move ! (1 ∷ 0 ∷ []) $ fjoin ! $ nothing ! $ move ! (2 ∷ 0 ∷ []) $ join ! $ join ! $ frame ! $ done !;
       met = next-known (next-to e₁ word₁ c₁);
-      answered = L.answers 𝓤 H A W κ q b o γ Post Right exits (Unit {0} × (Unit {0} × Unit {0})) (λ zs. fsep ftrue (fsep ftrue (ftrue))) (λ r e. (r ≡ c₁ .reply) × (e ≡ receiverEnd e₁ word₁ c₁)) right;
+      answered = L.answers 𝓤 H A W κ q b o γ Post Right exits (Unit {0} × (Unit {0} × Unit {0})) (λ zs. fsep ftrue (fsep ftrue (ftrue))) (λ r e. (r ≡ updatedReply e₁ word₁ c₁) × (e ≡ updatedEnd e₁ word₁ c₁)) right;
     }
 
     walk : ent 𝓤 (onEntry 𝓤 H A f.signature (κ, tt) (q, tt) x at) (WpFn 𝓤 H C Λ code.function (vptr b o ∷ (vint w32 word) ∷ (vint w64 channel) ∷ (LL.val Ct.the-type Ct′.the-laws c) ∷ []) Post)
@@ -200,20 +200,20 @@ module _ {M : Type 1} (𝓤 : URA M) (H : Heap 𝓤) (A : Atoms 𝓤) (W : Given
         (λ was. passes-since W (L.closes-at 𝓤 H A W κ q b o γ h _ put-in spelled (made was)) (next-passes put-in word c word-fits c-is (λ r e said. said))))
 
 module _ {M : Type 1} (𝓤 : URA M) (H : Heap 𝓤) (A : Atoms 𝓤) (W : Given 𝓤 H A) (at-mem : Memory → SProp 𝓤) (run : Routine → Fun 𝓤) where
-  tell-parameter-walks : (C : Calls 𝓤 H) (Λ : Loops 𝓤 H) → FmC 𝓤 H (W .laws) C → Triple 𝓤 (C next-name) (Receiver 𝓤 H A at-mem run) → Walks 𝓤 H A f.ended stayed (WpFn 𝓤 H C Λ code.function) (f.clauses 𝓤 H A at-mem run)
-  tell-parameter-walks C Λ fm next-known = walked 𝓤 H A f.ended stayed (f.clauses 𝓤 H A at-mem run) (WpFn 𝓤 H C Λ code.function) (λ κs. (ptr-vals, (uint-vals w32, (uint-vals w64, (LL.vals Ct.the-type Ct′.the-laws, tt))))) (λ κs. (mut-tells (named 0) (κs .0) T.the-row, (uint-tells w32, (uint-tells w64, (LL.tells Ct.the-type Ct′.the-laws, tt)))))
+  store-parameter-walks : (C : Calls 𝓤 H) (Λ : Loops 𝓤 H) → FmC 𝓤 H (W .laws) C → Triple 𝓤 (C next-name) (Receiver 𝓤 H A at-mem run) → Walks 𝓤 H A f.ended stayed (WpFn 𝓤 H C Λ code.function) (f.clauses 𝓤 H A at-mem run)
+  store-parameter-walks C Λ fm next-known = walked 𝓤 H A f.ended stayed (f.clauses 𝓤 H A at-mem run) (WpFn 𝓤 H C Λ code.function) (λ κs. (ptr-vals, (uint-vals w32, (uint-vals w64, (LL.vals Ct.the-type Ct′.the-laws, tt))))) (λ κs. (mut-tells (named 0) (κs .0) T.the-row, (uint-tells w32, (uint-tells w64, (LL.tells Ct.the-type Ct′.the-laws, tt)))))
       (λ κs qs bounds a _ are. via 𝓤 _ (fst∗ 𝓤 _ (emp 𝓤)) (walk 𝓤 H A W at-mem run (κs .0) (qs .0) (a .0 .ptr .0) (a .0 .ptr .1) (a .0 .name) (a .0 .now) (a .1 .0) (a .1 .1 .0) (a .1 .1 .1 .0) (are .1 .0 .1) (are .1 .1 .0 .1) (are .1 .1 .1 .0) C Λ fm next-known))
 
   goes : AllGo 𝓤 H A W 1 (f.signature .params) (f.ended .kept) stayed
   goes = (goes-gave-ref 𝓤 H A W 1 0 tt (plain (λ _. T.the-row)), (goes-none 𝓤 H A W 1 (λ _. u32) yes (λ κs x f. refl), (goes-none 𝓤 H A W 1 (λ _. usize) yes (λ κs x f. refl), (goes-none 𝓤 H A W 1 (λ _. Ct.the-row) yes (λ κs x f. refl), tt))))
 
-tell-parameter-meets : {M : Type 1} (𝓤 : URA M) (H : Heap 𝓤) (A : Atoms 𝓤) → Given 𝓤 H A → (at-mem : Memory → SProp 𝓤) (run : Routine → Fun 𝓤) (𝓣 : Tables 𝓤 H) → Triple 𝓤 (𝓣 .C next-name) (Receiver 𝓤 H A at-mem run) → Meets 𝓤 H A f.signature (WpFn 𝓤 H (𝓣 .C) (𝓣 .Λ) code.function) (f.spec 𝓤 H A at-mem run)
-tell-parameter-meets 𝓤 H A W at-mem run 𝓣 next-known = walk-meets 𝓤 H A f.ended stayed W (goes 𝓤 H A W at-mem run) (f.clauses 𝓤 H A at-mem run) (WpFn 𝓤 H (𝓣 .C) (𝓣 .Λ) code.function) (WpFn-mono 𝓤 H (W .laws) 𝓣 code.function) (tell-parameter-walks 𝓤 H A W at-mem run (𝓣 .C) (𝓣 .Λ) (fmOf 𝓤 H (W .laws) 𝓣) next-known)
+store-parameter-meets : {M : Type 1} (𝓤 : URA M) (H : Heap 𝓤) (A : Atoms 𝓤) → Given 𝓤 H A → (at-mem : Memory → SProp 𝓤) (run : Routine → Fun 𝓤) (𝓣 : Tables 𝓤 H) → Triple 𝓤 (𝓣 .C next-name) (Receiver 𝓤 H A at-mem run) → Meets 𝓤 H A f.signature (WpFn 𝓤 H (𝓣 .C) (𝓣 .Λ) code.function) (f.spec 𝓤 H A at-mem run)
+store-parameter-meets 𝓤 H A W at-mem run 𝓣 next-known = walk-meets 𝓤 H A f.ended stayed W (goes 𝓤 H A W at-mem run) (f.clauses 𝓤 H A at-mem run) (WpFn 𝓤 H (𝓣 .C) (𝓣 .Λ) code.function) (WpFn-mono 𝓤 H (W .laws) 𝓣 code.function) (store-parameter-walks 𝓤 H A W at-mem run (𝓣 .C) (𝓣 .Λ) (fmOf 𝓤 H (W .laws) 𝓣) next-known)
 
-pub tell-parameter-spec : {M : Type 1} → stated.statement M
+pub store-parameter-spec : {M : Type 1} → stated.statement M
 unfolding code.routine tablesOf
-tell-parameter-spec 𝓤 H 𝓜 𝓖 𝓡 =
+store-parameter-spec 𝓤 H 𝓜 𝓖 𝓡 =
     entered 𝓤 H (tripleOf 𝓤 H (𝓖 .A) f.signature (f.spec 𝓤 H (𝓖 .A) (𝓜 .mem) (𝓡 .run)))
-    (tables 𝓤 H 𝓜 𝓡 code.env .C) (tables 𝓤 H 𝓜 𝓡 code.env .Λ) tell-parameter-name code.function (code.unfolded 𝓤 H 𝓜 𝓡)
-    (tell-parameter-meets 𝓤 H (𝓖 .A) (givenOf 𝓤 H 𝓜 𝓖) (𝓜 .mem) (𝓡 .run) (tablesOf 𝓤 H 𝓜 (tables 𝓤 H 𝓜 𝓡 code.env))
-    (cited 𝓤 H (Receiver 𝓤 H (𝓖 .A) (𝓜 .mem) (𝓡 .run)) 𝓜 𝓡 code.env next-name next-def.routine code.calls-lent-end·tell-receiver (next-thm.met 𝓤 H 𝓜 𝓖 𝓡)))
+    (tables 𝓤 H 𝓜 𝓡 code.env .C) (tables 𝓤 H 𝓜 𝓡 code.env .Λ) store-parameter-name code.function (code.unfolded 𝓤 H 𝓜 𝓡)
+    (store-parameter-meets 𝓤 H (𝓖 .A) (givenOf 𝓤 H 𝓜 𝓖) (𝓜 .mem) (𝓡 .run) (tablesOf 𝓤 H 𝓜 (tables 𝓤 H 𝓜 𝓡 code.env))
+    (cited 𝓤 H (Receiver 𝓤 H (𝓖 .A) (𝓜 .mem) (𝓡 .run)) 𝓜 𝓡 code.env next-name next-def.routine code.calls-lent-end·update-receiver (next-thm.met 𝓤 H 𝓜 𝓖 𝓡)))
