@@ -41,6 +41,7 @@ use Rattle.receiving_end.specs.declared.end.Reply.the-variants.{Quiet, Message}
 use Rattle.receiving_end.specs.declared.end.Stepped.{Stepped}
 use Rattle.lent_end.specs.declared.Taken.{Taken}
 use Rattle.receiving_end.specs.End.{blankState, withReader, withReceiver, withParameter, parameterAt, parameterEventAt, stepped, messageAt, messageStep, answerStep, stepOf, stepReply, stepEnd}
+use Rattle.receiving_end.specs.Lists.{answer, next, byteLent, replied}
 use Rattle.lent_end.specs.Lent.{readerOnly, wordTaken, readTaken, takenOf, eventOnMember, eventByRole, eventReply, settlesWith, controlledOf, brightnessEnd, settledEnd, settledReply, updatedEnd, updatedReply, controlEnd, controlReply, messageEnd, messageReply}
 use Rattle.lent_end.proofs.Words.{Formed, Fine, read-fine}
 
@@ -297,18 +298,27 @@ pub lent-is-step : (e : End) (b : ℕ) → e .reader .status < 2 ^ 8
     × (takenEnd (withReader e (takenOf (e .reader) b .reader)) (takenOf (e .reader) b) ≡ stepEnd e b)
 lent-is-step e b h = let p = byte-step e b h in (ap (λ s. s .reply) p, ap (λ s. s .end) p)
 
+-- what the byte call promises of the reply and of the end: by the byte step, and by the list of calls
+abbrev pub Promised : End → ℕ → Reply → End → Type 0
+Promised e b r x = ((r ≡ stepReply e b) × (x ≡ stepEnd e b)) × ((answer e (byteLent b) ≡ replied r) × (next e (byteLent b) ≡ x))
+
+as-called : (e : End) (b : ℕ) (r : Reply) (x : End) → (r ≡ stepReply e b) × (x ≡ stepEnd e b) → Promised e b r x
+as-called e b r x p = (p, (ap replied (sym (p .0)), sym (p .1)))
+
 -- what a byte is to the lent call, and the two ways on from there
 pub message-right : (e : End) (b : ℕ) (t : Taken) → t ≡ takenOf (e .reader) b → T (t .message) → e .reader .status < 2 ^ 8
-    → {r : Reply} {x : End} → (r ≡ messageReply (withReader e (t .reader)) t) × (x ≡ messageEnd (withReader e (t .reader)) t) → (r ≡ stepReply e b) × (x ≡ stepEnd e b)
+    → {r : Reply} {x : End} → (r ≡ messageReply (withReader e (t .reader)) t) × (x ≡ messageEnd (withReader e (t .reader)) t) → Promised e b r x
 message-right e b t is m lt {r} {x} p =
-    let s = lent-is-step e b lt in (
+    let s = lent-is-step e b lt in
+    as-called e b r x (
       p .0 ∙ sym (taken (t .message) (messageReply (withReader e (t .reader)) t) (t .reply) m) ∙ ap (λ y. takenReply (withReader e (y .reader)) y) is ∙ s .0,
       p .1 ∙ sym (taken (t .message) (messageEnd (withReader e (t .reader)) t) (withReader e (t .reader)) m) ∙ ap (λ y. takenEnd (withReader e (y .reader)) y) is ∙ s .1,
     )
 
-pub reader-right : (e : End) (b : ℕ) (t : Taken) → t ≡ takenOf (e .reader) b → T (not (t .message)) → e .reader .status < 2 ^ 8 → (t .reply ≡ stepReply e b) × (withReader e (t .reader) ≡ stepEnd e b)
+pub reader-right : (e : End) (b : ℕ) (t : Taken) → t ≡ takenOf (e .reader) b → T (not (t .message)) → e .reader .status < 2 ^ 8 → Promised e b (t .reply) (withReader e (t .reader))
 reader-right e b t is m lt =
-    let s = lent-is-step e b lt in (
+    let s = lent-is-step e b lt in
+    as-called e b (t .reply) (withReader e (t .reader)) (
       sym (untaken (t .message) (messageReply (withReader e (t .reader)) t) (t .reply) m) ∙ ap (λ y. takenReply (withReader e (y .reader)) y) is ∙ s .0,
       sym (untaken (t .message) (messageEnd (withReader e (t .reader)) t) (withReader e (t .reader)) m) ∙ ap (λ y. takenEnd (withReader e (y .reader)) y) is ∙ s .1,
     )

@@ -4,6 +4,7 @@ ghost use Rattle.parameters.specs.State.{parameterReplyRead};
 ghost use Rattle.mpe_zones.specs.Update.{inMode4};
 ghost use Rattle.mpe_receiver.specs.Receive.{receiverReplyRead};
 ghost use Rattle.receiving_end.specs.End.{eventIn, mpeIn, stepReply, stepEnd};
+ghost use Rattle.receiving_end.specs.Lists.{answer, next, byteLent, replied};
 ghost use Rattle.ump.specs.Word.{bendOf};
 ghost use Rattle.receiving_end.specs.declared.end.Reply.the-variants.{Message};
 ghost use Rattle.lent_end.specs.Lent.{readerOnly, wordTaken, readTaken, takenOf, eventOnMember, eventByRole, eventReply, settlesWith, controlledOf, settledOf, storedEnd, brightnessEnd, settledReply, settledEnd, updatedReply, updatedEnd, parameterEnd, controlReply, controlEnd, messageReply, messageEnd};
@@ -367,7 +368,7 @@ fn receive_message(end: &mut End, t: Taken) -> Reply
 
 // The byte call on a lent end, which is taken apart and altered where it stands.
 pub fn byte(end: &mut End, b: u8) -> Reply
-    ensures { λ r. ⌜ (r ≡ stepReply (now (end .entry)) b) × (now (end .exit) ≡ stepEnd (now (end .entry)) b) ⌝ }
+    ensures { λ r. ⌜ ((r ≡ stepReply (now (end .entry)) b) × (now (end .exit) ≡ stepEnd (now (end .entry)) b)) × ((answer (now (end .entry)) (byteLent b) ≡ replied r) × (next (now (end .entry)) (byteLent b) ≡ now (end .exit))) ⌝ }
 {
     let reader = end.reader;
     let t = take(reader, b);
@@ -381,7 +382,7 @@ pub fn byte(end: &mut End, b: u8) -> Reply
 
 // The lent call from values to a value.
 pub fn byte_of(e: End, b: u8) -> Stepped
-    ensures { λ r. ⌜ (r .reply ≡ stepReply e b) × (r .end ≡ stepEnd e b) ⌝ }
+    ensures { λ r. ⌜ ((r .reply ≡ stepReply e b) × (r .end ≡ stepEnd e b)) × ((answer e (byteLent b) ≡ replied (r .reply)) × (next e (byteLent b) ≡ r .end)) ⌝ }
 {
     let mut end = e;
     let reply = byte(&mut end, b);

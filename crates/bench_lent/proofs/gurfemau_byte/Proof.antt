@@ -40,6 +40,7 @@ use Rattle.receiving_end.specs.declared.end.Reply.{Reply}
 use Rattle.receiving_end.proofs.end.End as T
 use Rattle.receiving_end.proofs.end.Reply as R
 use Rattle.receiving_end.proofs.end.Reply.Laws as R′
+use Rattle.lent_end.proofs.Lent.{Promised}
 use Rattle.lent_end.proofs.byte as byte
 use Rattle.lent_end.proofs.byte.Symbol as byte-def
 use Rattle.lent_end.proofs.byte.Symbol.{name as #end·byte}
@@ -81,7 +82,7 @@ module _ {M : Type 1} (𝓤 : URA M) (H : Heap 𝓤) (A : Atoms 𝓤) (W : Given
 
   -- what `byte` ensures of its reply and of the end at its last value
   abbrev Said : Reply → End → Type 0
-  Said r e = (r ≡ stepReply h n) × (e ≡ stepEnd h n)
+  Said r e = Promised h n r e
 
   exits : (e : End) (k : ℕ) (v : Val) → (k ≡ replyCode (stepReply h n)) × (e ≡ stepEnd h n) → ent 𝓤 (sep 𝓤 (A .lft κ q) (sep 𝓤 (A .res γ (T.the-row .coded .code e)) (sem 𝓤 H A (u64 .own k (v ∷ []))))) (Post v)
   exits e k v right =
@@ -124,7 +125,7 @@ module _ {M : Type 1} (𝓤 : URA M) (H : Heap 𝓤) (A : Atoms 𝓤) (W : Given
         land ! (from ! (stop !)) (init ! 12 refl (uint-lawful 𝓤 H A W w64 .typed k _ is′ .0)) $
         returns ! (look ! 12 refl) $ forget ! 4 refl $ forget ! 6 refl $ forget ! 8 refl $ forget ! 10 refl $ forget ! 12 refl $
         move ! (12 ∷ 13 ∷ []) $ free1 ! $ move ! (10 ∷ 11 ∷ []) $ free1 ! $ move ! (8 ∷ 9 ∷ []) $ free1 ! $ move ! (6 ∷ 7 ∷ []) $ free1 ! $ move ! (4 ∷ 5 ∷ []) $ free1 ! $ free0 ! $
-        move ! (1 ∷ []) $ split ! $ move ! (0 ∷ 3 ∷ 2 ∷ []) $ keep ! (0 ∷ 1 ∷ 2 ∷ []) $ by ! (exits (zs .0) k w′ (e ∙ ap replyCode (right .0), right .1))))))))))))))))
+        move ! (1 ∷ []) $ split ! $ move ! (0 ∷ 3 ∷ 2 ∷ []) $ keep ! (0 ∷ 1 ∷ 2 ∷ []) $ by ! (exits (zs .0) k w′ (e ∙ ap replyCode (right .0 .0), right .0 .1))))))))))))))))
 
 module _ {M : Type 1} (𝓤 : URA M) (H : Heap 𝓤) (A : Atoms 𝓤) (W : Given 𝓤 H A) (at-mem : Memory → SProp 𝓤) (run : Routine → Fun 𝓤) where
   gurfemau-byte-walks : (C : Calls 𝓤 H) (Λ : Loops 𝓤 H) → FmC 𝓤 H (W .laws) C → Triple 𝓤 (C #end·byte) (Byte 𝓤 H A at-mem run) → Triple 𝓤 (C #reply-code) (Coded 𝓤 H A at-mem run)

@@ -45,8 +45,8 @@ use denote.Triple.Table.{entered, cited}
 use denote.Triple.Walked.{says, Stays, gave-ref, stay-none, walkOf, AllGo, goes-none, goes-gave-ref, Walks, ends-at, walked, walk-meets}
 use denote.Exit.{yes}
 use Rattle.lent_end.specs.Lent.{messageReply, messageEnd, takenOf}
-use Rattle.receiving_end.specs.End.{withReader, stepReply, stepEnd}
-use Rattle.lent_end.proofs.Lent.{message-right, reader-right}
+use Rattle.receiving_end.specs.End.{withReader}
+use Rattle.lent_end.proofs.Lent.{Promised, message-right, reader-right}
 use Rattle.receiving_end.specs.declared.end.End.{End}
 use Rattle.receiving_end.specs.declared.end.Reply.{Reply}
 use Rattle.lent_end.specs.declared.Taken.{Taken}
@@ -147,7 +147,7 @@ module _ {M : Type 1} (𝓤 : URA M) (H : Heap 𝓤) (A : Atoms 𝓤) (W : Given
   Post = walkOf 𝓤 H A f.ended stayed (f.clauses 𝓤 H A at-mem run) .post (((κ, tt), (q, tt), tt, x, at), tt)
 
   abbrev Right : Reply → End → Type 0
-  Right r e = (r ≡ stepReply h b₈) × (e ≡ stepEnd h b₈)
+  Right r e = Promised h b₈ r e
 
   abbrev lending : End → SProp 𝓤
   lending e = mean 𝓤 H A (L.lends 𝓤 H A W κ q b o γ e)
