@@ -1,8 +1,7 @@
 // The byte call on a lent end: the end is taken apart and altered where it stands.
 ghost use mathlib.Core.Path.{_≡_};
 ghost use Rattle.parameters.specs.State.{parameterReplyRead};
-ghost use Rattle.mpe_zones.specs.Update.{inMode4};
-ghost use Rattle.mpe_receiver.specs.Receive.{receiverReplyRead};
+ghost use Rattle.mpe_zones.specs.Update.{inMode4, mpeReplyRead};
 ghost use Rattle.receiving_end.specs.End.{eventIn, mpeIn, stepReply, stepEnd};
 ghost use Rattle.receiving_end.specs.Lists.{answer, next, byteLent, replied};
 ghost use Rattle.ump.specs.Word.{bendOf};
@@ -16,6 +15,7 @@ use mpe_layout::MpeRole;
 use mpe_layout::MpeZone;
 use mpe_receiver::MpeReceiver;
 use mpe_zones::MpeEvent;
+use mpe_zones::MpeReply;
 use parameters::MaybeEvent;
 use parameters::ParameterState;
 use receiving_end::end::End;
@@ -206,12 +206,12 @@ fn event_in(reply: parameters::Reply) -> MaybeEvent
 }
 
 // The reply to a message by what the receiver answers.
-fn reply_to(word: u32, reply: mpe_receiver::Reply) -> Reply
-    ensures { λ r. ⌜ r ≡ Message word (mpeIn (receiverReplyRead reply)) ⌝ }
+fn reply_to(word: u32, reply: MpeReply) -> Reply
+    ensures { λ r. ⌜ r ≡ Message word (mpeIn (mpeReplyRead reply)) ⌝ }
 {
     match reply {
-        mpe_receiver::Reply::Received(e) => Reply::Message(word, e),
-        mpe_receiver::Reply::OutOfRange => Reply::Message(word, MpeEvent::Ignored),
+        MpeReply::Received(e) => Reply::Message(word, e),
+        MpeReply::OutOfRange => Reply::Message(word, MpeEvent::Ignored),
     }
 }
 

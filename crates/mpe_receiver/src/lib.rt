@@ -142,7 +142,7 @@ impl MpeReceiver {
     }
 
     // The zones.
-    pub fn zones(self) -> Zones
+    fn zones(self) -> Zones
         ensures { λ r. ⌜ r ≡ zonesOf self ⌝ }
     {
         let layout = self.layout;

@@ -3,7 +3,6 @@ ghost use mathlib.Core.Path.{_≡_};
 ghost use Prim.Native.Nat.{_<_, _*_, _+_};
 ghost use Rattle.mpe_layout.specs.Layout.{layoutMade, roleFound, lowestFound};
 ghost use Rattle.mpe_layout.specs.Reset.{maskFound};
-ghost use Rattle.parameters.specs.declared.MaybeEvent.the-variants.{NoEvent};
 ghost use Rattle.mpe_zones.specs.Zones.{withMono, monoOf, slotOf, sensitivityAt, sensitivityPut, zoneSensitivity, activated, activatedIf, roleIn, roleHeld, layoutIn, isLowest, withZonesOf, zonesSetReply, zonesSet};
 ghost use Rattle.mpe_zones.specs.Update.{decodedRpn, decodedParameter, decodedEvent, decoded, zonesUpdate, announced, configuredBy, configured, announcedOn, sensitivityApplied, sensedAs, sensed, sensedEvent, inMode4, modeEvent, otherOnMember, isLowestIn, onMember, plainEvent, modeSet, updatedAs, messageUpdate, mpeReplyRead, zonesReply, zonesAfter, resetIn};
 ghost use Rattle.mpe_zones.specs.Claims.{ReceiverCases};
@@ -592,18 +591,6 @@ impl Zones {
             zones: self,
             reply: MpeReply::OutOfRange,
         }
-    }
-
-    // The event of a message for which its channel's parameters gave none. A word that is no message is out of range.
-    pub fn event(self, word: u32) -> MpeReply
-        ensures { λ r. ⌜ mpeReplyRead r ≡ zonesReply self word NoEvent ⌝ }
-    {
-        if is_message(word) {
-            let role = self.role(channel(word));
-            let event = self.event_by_role(role, opcode(word), channel(word), first_data(word));
-            return MpeReply::Received(event);
-        }
-        MpeReply::OutOfRange
     }
 
     // A layout that the application sets. An illegal one is out of range.

@@ -1,6 +1,6 @@
 // The parameter receiver of one channel (parameters.rs).
 ghost use mathlib.Core.Path.{_≡_};
-ghost use Prim.Native.Nat.{_%_, _^_, _<_, _-_};
+ghost use Prim.Native.Nat.{_<_, _-_};
 ghost use Rattle.parameters.specs.State.{newState, selects, selectedRpn, selectedNrpn, selectionOf, nulled, rpnSwitched, nrpnSwitched, entered, numberStored, controlled, updateByFields, parameterReplyRead, parameterReply, parameterAfter};
 use parameter_event::Parameter;
 use parameter_event::ParameterChange;
@@ -212,7 +212,7 @@ impl ParameterState {
         self
     }
 
-    // A control change whose data bytes have 7 bits.
+    // A control change, by its two data bytes.
     fn control(self, index: u8, value: u8) -> ParameterUpdate
         ensures { λ r. ⌜ r ≡ controlled self index value ⌝ }
     {
@@ -233,13 +233,6 @@ impl ParameterState {
             state: s,
             event: MaybeEvent::NoEvent,
         }
-    }
-
-    // A control change, by its two data bytes, of which the low 7 bits are taken.
-    pub fn control_change(self, index: u8, value: u8) -> ParameterUpdate
-        ensures { λ r. ⌜ r ≡ controlled self (index % 2 ^ 7) (value % 2 ^ 7) ⌝ }
-    {
-        self.control(index % 128, value % 128)
     }
 
     // A message whose fields are cut: only control changes act.

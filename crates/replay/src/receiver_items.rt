@@ -9,8 +9,8 @@ use mpe_layout::ResetMask;
 use mpe_pitch::MpeSensitivity;
 use mpe_receiver::MpeReceiver;
 use mpe_receiver::Offset;
-use mpe_zones::MpeReply;
 use mpe_zones::MpeEvent;
+use mpe_zones::MpeReply;
 use parameter_event::ParameterEvent;
 use parameters::MaybeEvent;
 
