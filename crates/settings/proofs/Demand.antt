@@ -29,7 +29,7 @@ use Rattle.settings.proofs.Clear.{AsNew}
 use Rattle.settings.proofs.Settle.{Controlled}
 use Rattle.settings.proofs.Restated.{heldBy, shownZones, restated, same-end}
 
--- calls that bring bytes are afterBytes as these bytes
+-- calls that bring bytes leave the end that these bytes leave
 pub arrives-received : (e : End) {bytes : List ℕ} {calls : List Call} → Arrives bytes calls → after e calls ≡ afterBytes e bytes
 unfolding after afterBytes
 arrives-received e whole = refl

@@ -34,7 +34,7 @@ pub record Shown (s : Settings) (e : End) : Type 0 where
   pub shows-brightness : (channel : ℕ) → answer e (brightness channel) ≡ counted (brightnessOn s (packetValue channel))
 
 -- Whatever was called on a new end, if the switches are as new and then these bytes arrive, the end shows the settings, and every later list of
--- calls gets the answers of a new end that afterBytes these bytes alone.
+-- calls gets the answers of a new end that received these bytes alone.
 pub record Demand (s : Settings) (bytes : List ℕ) : Type 0 where
   pub shown : (before calls : List Call) → SwitchesAsNew (after newEnd before) → Arrives bytes calls
       → Shown s (after (after newEnd before) calls)
