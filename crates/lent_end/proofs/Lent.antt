@@ -112,14 +112,16 @@ record Unsettled (event : MaybeEvent) (a : ℕ) : Type 0 where
   not-126 : eqb a 126 ≡ false
   not-127 : eqb a 127 ≡ false
 
+none-of : (x y z : Bool) → (if x then true else if y then true else z) ≡ false → (x ≡ false) × ((y ≡ false) × (z ≡ false))
+none-of true y z f = absurd (true≢false f)
+none-of false true z f = absurd (true≢false f)
+none-of false false z f = (refl, (refl, f))
+
 unsettled : (event : MaybeEvent) (a : ℕ) → settlesWith event a ≡ false → Unsettled event a
-unsettled (Event e) a = λ f. absurd (true≢false f)
-unsettled NoEvent a =
-    by-test (eqb a 121)
-    (λ x. rw x (λ f. absurd (true≢false f)))
-    (λ x. by-test (eqb a 126)
-    (λ y. rw (x, y) (λ f. absurd (true≢false f)))
-    (λ y. rw (x, y) (λ f. record { none = refl; not-121 = x; not-126 = y; not-127 = f })))
+unsettled NoEvent a f =
+    let n = none-of (eqb a 121) (eqb a 126) (eqb a 127) f in
+    record { none = refl; not-121 = n .0; not-126 = n .1 .0; not-127 = n .1 .1 }
+unsettled (Event e) a f = absurd (true≢false f)
 
 -- a message of a channel, as the lent call takes it
 abbrev messageTaken : Reader → ℕ → Bool → Taken
