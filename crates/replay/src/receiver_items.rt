@@ -35,7 +35,7 @@ pub(crate) fn event(line: Line, event: MpeEvent) -> Line {
 }
 
 // What `receive` answers.
-fn reply(reply: Reply) -> Line {
+fn reply(reply: MpeReply) -> Line {
     match reply {
         MpeReply::Received(e) => event(Line::new(), e),
         MpeReply::OutOfRange => Line::out_of_range(),
