@@ -90,10 +90,10 @@ module _ {M : Type 1} (𝓤 : URA M) (H : Heap 𝓤) (A : Atoms 𝓤) (W : Given
   Left e r v = sep 𝓤 (A .lft κ q) (sep 𝓤 (A .res γ (T.the-row .coded .code e)) (sem 𝓤 H A (R.the-row .own r (v ∷ []))))
 
   module _ (Post : Val → SProp 𝓤) (Right : Reply → End → Type 0) (exits : (e : End) (r : Reply) (v : Val) → Right r e → ent 𝓤 (Left e r v) (Post v)) where
-    pub answers : (Z : Type 0) (rest : End × Z → Fml) (says : Reply → End → Type 0) → ((r : Reply) (e : End) → says r e → Right r e) → (u : Val)
-        → ent 𝓤 (H .⇛ (ex 𝓤 (λ (r : Reply). sep 𝓤 (sep 𝓤 (sep 𝓤 (A .lft κ q) (emp 𝓤)) (sem 𝓤 H A (R.the-row .own r (u ∷ [])))) (ex 𝓤 (λ (zs : End × Z). sep 𝓤 (sep 𝓤 (A .res γ (T.the-row .coded .code (zs .0))) (sem 𝓤 H A (rest zs))) (fact 𝓤 (says r (zs .0))))))))
+    pub answers : (Z : Type 0) (rest : End × Z → Fml) (claims : Reply → End → Type 0) → ((r : Reply) (e : End) → claims r e → Right r e) → (u : Val)
+        → ent 𝓤 (H .⇛ (ex 𝓤 (λ (r : Reply). sep 𝓤 (sep 𝓤 (sep 𝓤 (A .lft κ q) (emp 𝓤)) (sem 𝓤 H A (R.the-row .own r (u ∷ [])))) (ex 𝓤 (λ (zs : End × Z). sep 𝓤 (sep 𝓤 (A .res γ (T.the-row .coded .code (zs .0))) (sem 𝓤 H A (rest zs))) (fact 𝓤 (claims r (zs .0))))))))
         (H .⇛ (guard 𝓤 (Typed R′.mir u) (Post u)))
-    answers Z rest says right u =
-        qed W (later (some (λ (r : Reply). ((‵ (flft κ q) ⊛ ‵ ftrue) ⊛ ‵ (R.the-row .own r (u ∷ []))) ⊛ some (λ (zs : End × Z). (‵ (fres γ (T.the-row .coded .code (zs .0))) ⊛ ‵ (rest zs)) ⊛ raw (fact 𝓤 (says r (zs .0)))))) ∷ []) ∵ updating ! $ await ! tt $ pick ! (λ r.
-        split ! $ move ! (1 ∷ []) $ pick ! (λ zs. split ! $ move ! (1 ∷ []) $ heard ! (says r (zs .0)) (λ said. split ! $ move ! (2 ∷ []) $ split ! $ move ! (1 ∷ []) $ peeks ! R.the-row (Is R.the-row) (shows 𝓤 H A R.the-row) r (u ∷ []) (λ is.
-        now ! $ check ! (EL.lawful R.the-type R′.the-laws 𝓤 H A W tt .typed r _ is .0) $ move ! (1 ∷ []) $ split ! $ move ! (0 ∷ 3 ∷ 2 ∷ []) $ keep ! (0 ∷ 1 ∷ 2 ∷ []) $ by ! (exits (zs .0) r u (right r (zs .0) said))))))
+    answers Z rest claims right u =
+        qed W (later (some (λ (r : Reply). ((‵ (flft κ q) ⊛ ‵ ftrue) ⊛ ‵ (R.the-row .own r (u ∷ []))) ⊛ some (λ (zs : End × Z). (‵ (fres γ (T.the-row .coded .code (zs .0))) ⊛ ‵ (rest zs)) ⊛ raw (fact 𝓤 (claims r (zs .0)))))) ∷ []) ∵ updating ! $ await ! tt $ pick ! (λ r.
+        split ! $ move ! (1 ∷ []) $ pick ! (λ zs. split ! $ move ! (1 ∷ []) $ heard ! (claims r (zs .0)) (λ claimed. split ! $ move ! (2 ∷ []) $ split ! $ move ! (1 ∷ []) $ peeks ! R.the-row (Is R.the-row) (shows 𝓤 H A R.the-row) r (u ∷ []) (λ is.
+        now ! $ check ! (EL.lawful R.the-type R′.the-laws 𝓤 H A W tt .typed r _ is .0) $ move ! (1 ∷ []) $ split ! $ move ! (0 ∷ 3 ∷ 2 ∷ []) $ keep ! (0 ∷ 1 ∷ 2 ∷ []) $ by ! (exits (zs .0) r u (right r (zs .0) claimed))))))

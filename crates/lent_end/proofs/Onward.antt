@@ -101,16 +101,16 @@ ended-of Y = record { signature = signature-of Y; kept = (yes, (yes, tt)) }
 -- what a contract says of the end and the message on entry, the reply, and the end on exit
 module _ {M : Type 1} (𝓤 : URA M) (H : Heap 𝓤) (A : Atoms 𝓤) where
   abbrev clauses : (End → Taken → Reply → End → Type 0) → Clauses 𝓤 ended
-  clauses Says κs a = record { ghost = Unit {0}; requires = λ g. emp 𝓤; ensures = λ g r e. fact 𝓤 (Says (a .0 .now) (a .1 .0) r (e .0 .now)) }
+  clauses Claims κs a = record { ghost = Unit {0}; requires = λ g. emp 𝓤; ensures = λ g r e. fact 𝓤 (Claims (a .0 .now) (a .1 .0) r (e .0 .now)) }
 
   abbrev pub spec : (End → Taken → Reply → End → Type 0) → Spec 𝓤 signature
-  spec Says = closing 𝓤 H A ended (clauses Says)
+  spec Claims = closing 𝓤 H A ended (clauses Claims)
 
   abbrev pub Onto : (End → Taken → Reply → End → Type 0) → Contract 𝓤
-  Onto Says = tripleOf 𝓤 H A signature (spec Says)
+  Onto Claims = tripleOf 𝓤 H A signature (spec Claims)
 
   abbrev pub OntoWith : (Y : RattleType) → (End → Taken → Y .Denot → Reply → End → Type 0) → Contract 𝓤
-  OntoWith Y Says = tripleOf 𝓤 H A (signature-with Y) (closing 𝓤 H A (ended-with Y) (λ κs a. record { ghost = Unit {0}; requires = λ g. emp 𝓤; ensures = λ g r e. fact 𝓤 (Says (a .0 .now) (a .1 .0) (a .1 .1 .0) r (e .0 .now)) }))
+  OntoWith Y Claims = tripleOf 𝓤 H A (signature-with Y) (closing 𝓤 H A (ended-with Y) (λ κs a. record { ghost = Unit {0}; requires = λ g. emp 𝓤; ensures = λ g r e. fact 𝓤 (Claims (a .0 .now) (a .1 .0) (a .1 .1 .0) r (e .0 .now)) }))
 
   abbrev clauses-of : (Y : RattleType) → (MpeReceiver → ℕ → Y .Denot) → Clauses 𝓤 (ended-of Y)
   clauses-of Y f κs a = record { ghost = Unit {0}; requires = λ g. emp 𝓤; ensures = λ g r e. fact 𝓤 (r ≡ f (a .0) (a .1 .0)) }
@@ -121,7 +121,7 @@ module _ {M : Type 1} (𝓤 : URA M) (H : Heap 𝓤) (A : Atoms 𝓤) where
 abbrev stayed : Stays (ended .signature .params) (ended .kept)
 stayed = (gave-ref (0 ∷ []) tt (plain (λ _. T.the-row)), (stay-none (λ _. Tk.the-row) yes, tt))
 
-module _ {M : Type 1} (𝓤 : URA M) (H : Heap 𝓤) (A : Atoms 𝓤) (W : Given 𝓤 H A) (Says : End → Taken → Reply → End → Type 0) where
+module _ {M : Type 1} (𝓤 : URA M) (H : Heap 𝓤) (A : Atoms 𝓤) (W : Given 𝓤 H A) (Claims : End → Taken → Reply → End → Type 0) where
   module _ (κ : Lft) (q : Share) (b o : ℕ) (γ : GName) (h : End) (t : Taken) (t-is : Is Tk.the-row t (taken-val t ∷ [])) where
     abbrev x : RefT End × (Taken × Unit {0})
     x = (record { ptr = (b, o); name = γ; now = h }, (t, tt))
@@ -130,15 +130,15 @@ module _ {M : Type 1} (𝓤 : URA M) (H : Heap 𝓤) (A : Atoms 𝓤) (W : Given
     at = (vptr b o ∷ [], (taken-val t ∷ [], tt))
 
     abbrev pub Post : Val → SProp 𝓤
-    Post = walkOf 𝓤 H A ended stayed (clauses 𝓤 H A Says) .post (((κ, tt), (q, tt), tt, x, at), tt)
+    Post = walkOf 𝓤 H A ended stayed (clauses 𝓤 H A Claims) .post (((κ, tt), (q, tt), tt, x, at), tt)
 
     abbrev pub lending : SProp 𝓤
     lending = mean 𝓤 H A (L.lends 𝓤 H A W κ q b o γ h)
 
-    pub exits : (e : End) (r : Reply) (v : Val) → Says h t r e → ent 𝓤 (L.Left 𝓤 H A W κ q b o γ e r v) (Post v)
+    pub exits : (e : End) (r : Reply) (v : Val) → Claims h t r e → ent 𝓤 (L.Left 𝓤 H A W κ q b o γ e r v) (Post v)
     exits e r v right =
         qed W (‵ (flft κ q) ∷ ‵ (fres γ (T.the-row .coded .code e)) ∷ ‵ (R.the-row .own r (v ∷ [])) ∷ []) ∵
-        suffices ! _ (ends-at 𝓤 H A ended stayed (clauses 𝓤 H A Says) W (((κ, tt), (q, tt), tt, x, at), tt) v r (e, (tt, tt)) (tt, (tt, tt))) $ says ! right $ nothing ! $ move ! (1 ∷ 0 ∷ []) $ join ! $
+        suffices ! _ (ends-at 𝓤 H A ended stayed (clauses 𝓤 H A Claims) W (((κ, tt), (q, tt), tt, x, at), tt) v r (e, (tt, tt)) (tt, (tt, tt))) $ says ! right $ nothing ! $ move ! (1 ∷ 0 ∷ []) $ join ! $
         frame ! $ nothing ! $ owned ! Tk.the-row (Is Tk.the-row) (LL.makes Tk.the-type Tk′.the-plain 𝓤 H A) t _ t-is $ fjoin ! $ move ! (1 ∷ 0 ∷ []) $ fjoin ! $ done !
 
     entry : ent 𝓤 (onEntry 𝓤 H A signature (κ, tt) (q, tt) x at) lending
@@ -148,14 +148,14 @@ module _ {M : Type 1} (𝓤 : URA M) (H : Heap 𝓤) (A : Atoms 𝓤) (W : Given
     abbrev to : (Then : End → Taken → Reply → End → Type 0) → Onto 𝓤 H A Then .Ghost
     to Then = (((κ, tt), (q, tt), tt, x, at), tt)
 
-    pub passes : (C : Calls 𝓤 H) (next : Name) (Then : End → Taken → Reply → End → Type 0) → Triple 𝓤 (C next) (Onto 𝓤 H A Then) → ((r : Reply) (e : End) → Then h t r e → Says h t r e)
+    pub passes : (C : Calls 𝓤 H) (next : Name) (Then : End → Taken → Reply → End → Type 0) → Triple 𝓤 (C next) (Onto 𝓤 H A Then) → ((r : Reply) (e : End) → Then h t r e → Claims h t r e)
         → Passes H C next (vptr b o ∷ taken-val t ∷ []) R′.mir lending Post
     passes C next Then known right = record {
       Ready = Onto 𝓤 H A Then .pre (to Then);
       Q = Onto 𝓤 H A Then .post (to Then);
       ready = qed W (L.lends 𝓤 H A W κ q b o γ h ∷ []) ∵ updating ! $ now ! $ split ! $ nothing ! $ owned ! Tk.the-row (Is Tk.the-row) (LL.makes Tk.the-type Tk′.the-plain 𝓤 H A) t _ t-is $ fjoin ! $ move ! (1 ∷ 0 ∷ []) $ fjoin ! $ nothing ! $ move ! (2 ∷ 0 ∷ []) $ join ! $ join ! $ frame ! $ done !;
       met = known (to Then);
-      answered = L.answers 𝓤 H A W κ q b o γ Post (Says h t) exits (Unit {0} × Unit {0}) (λ zs. fsep ftrue ftrue) (Then h t) right;
+      answered = L.answers 𝓤 H A W κ q b o γ Post (Claims h t) exits (Unit {0} × Unit {0}) (λ zs. fsep ftrue ftrue) (Then h t) right;
     }
 
     -- and a value of another type with them
@@ -163,13 +163,13 @@ module _ {M : Type 1} (𝓤 : URA M) (H : Heap 𝓤) (A : Atoms 𝓤) (W : Given
       abbrev with-to : OntoWith 𝓤 H A Y Then .Ghost
       with-to = (((κ, tt), (q, tt), tt, (record { ptr = (b, o); name = γ; now = h }, (t, (y, tt))), (vptr b o ∷ [], (taken-val t ∷ [], (val y ∷ [], tt)))), tt)
 
-      passes-with : ((r : Reply) (e : End) → Then h t y r e → Says h t r e) → Passes H C next (vptr b o ∷ taken-val t ∷ val y ∷ []) R′.mir lending Post
+      passes-with : ((r : Reply) (e : End) → Then h t y r e → Claims h t r e) → Passes H C next (vptr b o ∷ taken-val t ∷ val y ∷ []) R′.mir lending Post
       passes-with right = record {
         Ready = OntoWith 𝓤 H A Y Then .pre with-to;
         Q = OntoWith 𝓤 H A Y Then .post with-to;
         ready = qed W (L.lends 𝓤 H A W κ q b o γ h ∷ []) ∵ updating ! $ now ! $ split ! $ nothing ! $ owned ! Y (Is Y) makes y _ y-is $ fjoin ! $ owned ! Tk.the-row (Is Tk.the-row) (LL.makes Tk.the-type Tk′.the-plain 𝓤 H A) t _ t-is $ fjoin ! $ move ! (1 ∷ 0 ∷ []) $ fjoin ! $ nothing ! $ move ! (2 ∷ 0 ∷ []) $ join ! $ join ! $ frame ! $ done !;
         met = known with-to;
-        answered = L.answers 𝓤 H A W κ q b o γ Post (Says h t) exits (Unit {0} × (Last (Y .exit yes) y × Unit {0})) (λ zs. fsep ftrue (fsep (left (Y .exit yes) y (zs .1 .1 .0)) ftrue)) (Then h t y) right;
+        answered = L.answers 𝓤 H A W κ q b o γ Post (Claims h t) exits (Unit {0} × (Last (Y .exit yes) y × Unit {0})) (λ zs. fsep ftrue (fsep (left (Y .exit yes) y (zs .1 .1 .0)) ftrue)) (Then h t y) right;
       }
 
   goes : AllGo 𝓤 H A W 1 (signature .params) (ended .kept) stayed
@@ -179,10 +179,10 @@ module _ {M : Type 1} (𝓤 : URA M) (H : Heap 𝓤) (A : Atoms 𝓤) (W : Given
   pub meets : (𝓣 : Tables 𝓤 H) (code : S.Fn)
       → ((κ : Lft) (q : Share) (b o : ℕ) (γ : GName) (h : End) (t : Taken) (t-is : Is Tk.the-row t (taken-val t ∷ [])) → FmC 𝓤 H (W .laws) (𝓣 .C)
       → ent 𝓤 (lending κ q b o γ h t t-is) (WpFn 𝓤 H (𝓣 .C) (𝓣 .Λ) code (vptr b o ∷ taken-val t ∷ []) (Post κ q b o γ h t t-is)))
-      → Meets 𝓤 H A signature (WpFn 𝓤 H (𝓣 .C) (𝓣 .Λ) code) (spec 𝓤 H A Says)
+      → Meets 𝓤 H A signature (WpFn 𝓤 H (𝓣 .C) (𝓣 .Λ) code) (spec 𝓤 H A Claims)
   meets 𝓣 code walk =
-      walk-meets 𝓤 H A ended stayed W goes (clauses 𝓤 H A Says) (WpFn 𝓤 H (𝓣 .C) (𝓣 .Λ) code) (WpFn-mono 𝓤 H (W .laws) 𝓣 code)
-      (walked 𝓤 H A ended stayed (clauses 𝓤 H A Says) (WpFn 𝓤 H (𝓣 .C) (𝓣 .Λ) code) (λ κs. (ptr-vals, (LL.vals Tk.the-type Tk′.the-laws, tt))) (λ κs. (mut-tells (named 0) (κs .0) T.the-row, (LL.tells Tk.the-type Tk′.the-laws, tt)))
+      walk-meets 𝓤 H A ended stayed W goes (clauses 𝓤 H A Claims) (WpFn 𝓤 H (𝓣 .C) (𝓣 .Λ) code) (WpFn-mono 𝓤 H (W .laws) 𝓣 code)
+      (walked 𝓤 H A ended stayed (clauses 𝓤 H A Claims) (WpFn 𝓤 H (𝓣 .C) (𝓣 .Λ) code) (λ κs. (ptr-vals, (LL.vals Tk.the-type Tk′.the-laws, tt))) (λ κs. (mut-tells (named 0) (κs .0) T.the-row, (LL.tells Tk.the-type Tk′.the-laws, tt)))
       (λ κs qs bounds a _ are. via 𝓤 _ (fst∗ 𝓤 _ (emp 𝓤)) (via 𝓤 _ (entry (κs .0) (qs .0) (a .0 .ptr .0) (a .0 .ptr .1) (a .0 .name) (a .0 .now) (a .1 .0) (are .1 .0))
       (walk (κs .0) (qs .0) (a .0 .ptr .0) (a .0 .ptr .1) (a .0 .name) (a .0 .now) (a .1 .0) (are .1 .0) (fmOf 𝓤 H (W .laws) 𝓣)))))
 
@@ -248,8 +248,8 @@ module _ {M : Type 1} (𝓤 : URA M) (H : Heap 𝓤) (A : Atoms 𝓤) (W : Given
 module _ {M : Type 1} (𝓤 : URA M) (H : Heap 𝓤) (A : Atoms 𝓤) (W : Given 𝓤 H A) (find next : Name)
     (Y : RattleType) (σY : S.Ty) (val : Y .Denot → Val) (tells : Tells Y (Is Y) (λ y. val y ∷ [])) (makes : Makes 𝓤 H A Y (Is Y)) (typed : (y : Y .Denot) → Is Y y (val y ∷ []) → Typed σY (val y))
     (f : MpeReceiver → ℕ → Y .Denot) (Then : End → Taken → Y .Denot → Reply → End → Type 0) where
-  abbrev pub Says : End → Taken → Reply → End → Type 0
-  Says h t = Then h t (f (h .receiver) (t .word))
+  abbrev pub Claims : End → Taken → Reply → End → Type 0
+  Claims h t = Then h t (f (h .receiver) (t .word))
 
   module _ (κ : Lft) (q : Share) (b o : ℕ) (γ : GName) (h : End) (t : Taken) (t-is : Is Tk.the-row t (taken-val t ∷ [])) where
     abbrev found : Y .Denot
@@ -262,16 +262,16 @@ module _ {M : Type 1} (𝓤 : URA M) (H : Heap 𝓤) (A : Atoms 𝓤) (W : Given
     word-fits = LL.owed Tk.the-type Tk′.the-laws t _ t-is .1 .1 .1 .1 .1 .1 .0 .1
 
     walk : (C : Calls 𝓤 H) (Λ : Loops 𝓤 H) → FmC 𝓤 H (W .laws) C → Triple 𝓤 (C find) (Finds 𝓤 H A Y f) → Triple 𝓤 (C next) (OntoWith 𝓤 H A Y Then)
-        → ent 𝓤 (lending 𝓤 H A W Says κ q b o γ h t t-is) (WpFn 𝓤 H C Λ (shape find next R′.mir (T.the-row .written .ty) Tk′.mir Rv′.mir σY T′.mir) (vptr b o ∷ taken-val t ∷ []) (Post 𝓤 H A W Says κ q b o γ h t t-is))
+        → ent 𝓤 (lending 𝓤 H A W Claims κ q b o γ h t t-is) (WpFn 𝓤 H C Λ (shape find next R′.mir (T.the-row .written .ty) Tk′.mir Rv′.mir σY T′.mir) (vptr b o ∷ taken-val t ∷ []) (Post 𝓤 H A W Claims κ q b o γ h t t-is))
     walk C Λ fm find-known next-known = walks 𝓤 H A W C Λ fm find next R′.mir (T.the-row .written .ty) Tk′.mir Rv′.mir σY T′.mir b o
         refl refl refl
         _ _ _ _ _ _ (vint w32 (t .word)) _ _ _ (receiver-val (h .receiver)) (val found)
         (LL.lawful Tk.the-type Tk′.the-laws 𝓤 H A W .typed t _ t-is .0)
-        (lending 𝓤 H A W Says κ q b o γ h t t-is) (Post 𝓤 H A W Says κ q b o γ h t t-is) (mean 𝓤 H A (L.holds 𝓤 H A W κ q b o γ h)) (Is T.the-row h (end-val h ∷ [])) (Is Y found (val found ∷ []))
+        (lending 𝓤 H A W Claims κ q b o γ h t t-is) (Post 𝓤 H A W Claims κ q b o γ h t t-is) (mean 𝓤 H A (L.holds 𝓤 H A W κ q b o γ h)) (Is T.the-row h (end-val h ∷ [])) (Is Y found (val found ∷ []))
         (L.opens-here 𝓤 H A W κ q b o γ h) (λ was. LL.lawful Rv.the-type Rv′.the-laws 𝓤 H A W .typed (h .receiver) _ (receiver-is was) .0)
         (λ was. gives 𝓤 H A W find Y val tells f C find-known (h .receiver) (t .word) (receiver-is was) word-fits) (typed found)
-        (λ was is. passes-since W (L.closes-at 𝓤 H A W κ q b o γ h _ h refl was) (passes-with 𝓤 H A W Says κ q b o γ h t t-is C next Y val makes Then next-known found is (λ r e said. said)))
+        (λ was is. passes-since W (L.closes-at 𝓤 H A W κ q b o γ h _ h refl was) (passes-with 𝓤 H A W Claims κ q b o γ h t t-is C next Y val makes Then next-known found is (λ r e claimed. claimed)))
 
   pub onward : (𝓣 : Tables 𝓤 H) → Triple 𝓤 (𝓣 .C find) (Finds 𝓤 H A Y f) → Triple 𝓤 (𝓣 .C next) (OntoWith 𝓤 H A Y Then)
-      → Meets 𝓤 H A signature (WpFn 𝓤 H (𝓣 .C) (𝓣 .Λ) (shape find next R′.mir (T.the-row .written .ty) Tk′.mir Rv′.mir σY T′.mir)) (spec 𝓤 H A Says)
-  onward 𝓣 find-known next-known = meets 𝓤 H A W Says 𝓣 _ (λ κ q b o γ h t t-is fm. walk κ q b o γ h t t-is (𝓣 .C) (𝓣 .Λ) fm find-known next-known)
+      → Meets 𝓤 H A signature (WpFn 𝓤 H (𝓣 .C) (𝓣 .Λ) (shape find next R′.mir (T.the-row .written .ty) Tk′.mir Rv′.mir σY T′.mir)) (spec 𝓤 H A Claims)
+  onward 𝓣 find-known next-known = meets 𝓤 H A W Claims 𝓣 _ (λ κ q b o γ h t t-is fm. walk κ q b o γ h t t-is (𝓣 .C) (𝓣 .Λ) fm find-known next-known)

@@ -106,7 +106,7 @@ fn take_read(s: ReadStep) -> Taken
     }
 }
 
-// What one byte is. Only a data byte completes a message. With its way apart from that of the others the compiler makes 15 to 17 instructions a byte less of it (docs/BENCHMARKS.md).
+// What one byte is. Only a data byte completes a message. The two ways are equal: kept apart, they save some 15 instructions a byte (docs/BENCHMARKS.md).
 fn take(reader: Reader, b: u8) -> Taken
     ensures { λ r. ⌜ r ≡ takenOf reader b ⌝ }
 {

@@ -81,8 +81,8 @@ module _ {M : Type 1} (𝓤 : URA M) (H : Heap 𝓤) (A : Atoms 𝓤) (W : Given
   Post = walkOf 𝓤 H A f.ended stayed (f.clauses 𝓤 H A at-mem run) .post (((κ, tt), (q, tt), tt, x, at), tt)
 
   -- what `byte` ensures of its reply and of the end at its last value
-  abbrev Said : Reply → End → Type 0
-  Said r e = Promised h n r e
+  abbrev Claimed : Reply → End → Type 0
+  Claimed r e = Promised h n r e
 
   exits : (e : End) (k : ℕ) (v : Val) → (k ≡ replyCode (stepReply h n)) × (e ≡ stepEnd h n) → ent 𝓤 (sep 𝓤 (A .lft κ q) (sep 𝓤 (A .res γ (T.the-row .coded .code e)) (sem 𝓤 H A (u64 .own k (v ∷ []))))) (Post v)
   exits e k v right =
@@ -112,8 +112,8 @@ module _ {M : Type 1} (𝓤 : URA M) (H : Heap 𝓤) (A : Atoms 𝓤) (W : Given
         move ! (10 ∷ 11 ∷ []) $ use2 W (raw (Byte 𝓤 H A at-mem run .pre to-byte)) goes-byte $
         calls-at ! fm (Byte 𝓤 H A at-mem run) known-byte to-byte (and-then ! (load ! (from ! (stop !)) (look ! 1 refl)) (and-then ! (load ! (from ! (stop !)) (look ! 5 refl)) (no-more !))) (λ w.
         use1 W (later (some (λ (r : Reply). ((‵ (flft κ q) ⊛ ‵ ftrue) ⊛ ‵ (R.the-row .own r (w ∷ []))) ⊛ raw (ensured 𝓤 H A byte.ended (byte.clauses 𝓤 H A at-mem run) (κ, tt) x tt r)))) (id⊢ 𝓤 _) $ await ! tt $ pick ! (λ r.
-        split ! $ move ! (1 ∷ []) $ use1 W (some (λ (zs : End × (Unit {0} × Unit {0})). ‵ (lasts byte.ended (κ, tt) x zs) ⊛ raw (fact 𝓤 (Said r (zs .0))))) (id⊢ 𝓤 _) $ pick ! (λ zs.
-        split ! $ move ! (1 ∷ []) $ heard ! (Said r (zs .0)) (λ right. fsplit ! $ move ! (2 ∷ []) $ split ! $ move ! (1 ∷ []) $
+        split ! $ move ! (1 ∷ []) $ use1 W (some (λ (zs : End × (Unit {0} × Unit {0})). ‵ (lasts byte.ended (κ, tt) x zs) ⊛ raw (fact 𝓤 (Claimed r (zs .0))))) (id⊢ 𝓤 _) $ pick ! (λ zs.
+        split ! $ move ! (1 ∷ []) $ heard ! (Claimed r (zs .0)) (λ right. fsplit ! $ move ! (2 ∷ []) $ split ! $ move ! (1 ∷ []) $
         peeks ! R.the-row (Is R.the-row) (shows 𝓤 H A R.the-row) r (w ∷ []) (λ is.
         -- [what the reply owns; the token; the last value; …; _4; …; _3; …; _2; …; _1; …; _0; …]
         land ! (from ! (stop !)) (init ! 6 refl (EL.lawful R.the-type R′.the-laws 𝓤 H A W tt .typed r _ is .0)) $

@@ -198,7 +198,7 @@ module _ {M : Type 1} (𝓤 : URA M) (H : Heap 𝓤) (A : Atoms 𝓤) (W : Given
   status-fits was = LL.owed Rd.the-type Rd′.the-laws (h .reader) _ (reader-is was) .0 .1
 
   passes-right : Is T.the-row h (end-val h ∷ []) → Holds (taking .message) → (r : Reply) (e : End) → (r ≡ messageReply read-on taking) × (e ≡ messageEnd read-on taking) → Right r e
-  passes-right was s r e said = message-right h b₈ taking refl s (status-fits was) said
+  passes-right was s r e claimed = message-right h b₈ taking refl s (status-fits was) claimed
 
   stays-right : Is T.the-row h (end-val h ∷ []) → Holds (not (taking .message)) → Right (taking .reply) read-on
   stays-right was s = reader-right h b₈ taking refl s (status-fits was)

@@ -80,8 +80,8 @@ module _ {M : Type 1} (𝓤 : URA M) (H : Heap 𝓤) (A : Atoms 𝓤) (mem : Mem
   Byte = tripleOf 𝓤 H A byte.signature (byte.spec 𝓤 H A mem run)
 
 module _ {M : Type 1} (𝓤 : URA M) (H : Heap 𝓤) (A : Atoms 𝓤) (W : Given 𝓤 H A) (at-mem : Memory → SProp 𝓤) (run : Routine → Fun 𝓤) (h : End) (n : ℕ) (g : Is T.the-row h (end-val h ∷ [])) (fits : n < 2 ^ 8) where
-  abbrev Said : Reply → End → Type 0
-  Said r e = Promised h n r e
+  abbrev Claimed : Reply → End → Type 0
+  Claimed r e = Promised h n r e
 
   abbrev at : List Val × (List Val × Unit {0})
   at = (end-val h ∷ [], (vint w8 n ∷ [], tt))
@@ -89,7 +89,7 @@ module _ {M : Type 1} (𝓤 : URA M) (H : Heap 𝓤) (A : Atoms 𝓤) (W : Given
   abbrev Post : Val → SProp 𝓤
   Post = walkOf 𝓤 H A byte-of.ended stayed (byte-of.clauses 𝓤 H A at-mem run) .post ((tt, tt, tt, (h, (n, tt)), at), tt)
 
-  exits : (e : End) (r : Reply) → Said r e → Is T.the-row e (end-val e ∷ []) → Is R.the-row r (reply-val r ∷ []) → ent 𝓤 (emp 𝓤) (Post (out-val (record { end = e; reply = r })))
+  exits : (e : End) (r : Reply) → Claimed r e → Is T.the-row e (end-val e ∷ []) → Is R.the-row r (reply-val r ∷ []) → ent 𝓤 (emp 𝓤) (Post (out-val (record { end = e; reply = r })))
   exits e r right ge is =
       qed W [] ∵
       suffices ! _ (ends-at 𝓤 H A byte-of.ended stayed (byte-of.clauses 𝓤 H A at-mem run) W ((tt, tt, tt, (h, (n, tt)), at), tt) (out-val (record { end = e; reply = r })) (record { end = e; reply = r }) (tt, (tt, tt)) (tt, (tt, tt))) $ says ! right $
@@ -139,8 +139,8 @@ module _ {M : Type 1} (𝓤 : URA M) (H : Heap 𝓤) (A : Atoms 𝓤) (W : Given
         -- [what byte asks; the lender's part; _6; …; _5; …; _4; …; (_3) …; _2; …; _1; …; _0; …]
         calls-at ! fm (Byte 𝓤 H A at-mem run) known (to-byte α l₃ δ) (and-then ! (load ! (from ! (stop !)) (look ! 4 refl)) (and-then ! (load ! (from ! (stop !)) (look ! 9 refl)) (no-more !))) (λ w.
         use1 W (later (some (λ (r : Reply). ((‵ (flft (α ∷ []) fullShare) ⊛ ‵ ftrue) ⊛ ‵ (R.the-row .own r (w ∷ []))) ⊛ raw (ensured 𝓤 H A byte.ended (byte.clauses 𝓤 H A at-mem run) (α ∷ [], tt) (x l₃ δ, (n, tt)) tt r)))) (id⊢ 𝓤 _) $ await ! tt $ pick ! (λ r.
-        split ! $ move ! (1 ∷ []) $ use1 W (some (λ (zs : End × (Unit {0} × Unit {0})). ‵ (lasts byte.ended (α ∷ [], tt) (x l₃ δ, (n, tt)) zs) ⊛ raw (fact 𝓤 (Said r (zs .0))))) (id⊢ 𝓤 _) $ pick ! (λ zs.
-        split ! $ move ! (1 ∷ []) $ heard ! (Said r (zs .0)) (λ right. fsplit ! $ move ! (2 ∷ []) $ split ! $ move ! (1 ∷ []) $
+        split ! $ move ! (1 ∷ []) $ use1 W (some (λ (zs : End × (Unit {0} × Unit {0})). ‵ (lasts byte.ended (α ∷ [], tt) (x l₃ δ, (n, tt)) zs) ⊛ raw (fact 𝓤 (Claimed r (zs .0))))) (id⊢ 𝓤 _) $ pick ! (λ zs.
+        split ! $ move ! (1 ∷ []) $ heard ! (Claimed r (zs .0)) (λ right. fsplit ! $ move ! (2 ∷ []) $ split ! $ move ! (1 ∷ []) $
         peeks ! R.the-row (Is R.the-row) (shows 𝓤 H A R.the-row) r (w ∷ []) (λ is.
         -- [what the reply owns; the token; the last value; …; the lender's part; _6; …; _5; …; _4; …]
         land ! (from ! (stop !)) (init ! 9 refl (EL.lawful R.the-type R′.the-laws 𝓤 H A W tt .typed r _ is .0)) $ rewrite ! 9 (λ (u : Val). ‵ (fat fullShare R′.mir l₄ 0 u)) (ap only (EL.tells R.the-type R′.the-laws r _ is)) refl $

@@ -135,8 +135,8 @@ module _ {M : Type 1} (𝓤 : URA M) (H : Heap 𝓤) (A : Atoms 𝓤) (W : Given
       land ! (from ! (stop !)) (init ! 19 refl typed) $ returns ! (look ! 19 refl) $ forget ! 1 refl $ forget ! 3 refl $ forget ! 5 refl $ forget ! 7 refl $ forget ! 9 refl $ forget ! 11 refl $ forget ! 13 refl $ forget ! 15 refl $ forget ! 17 refl $ forget ! 19 refl $ move ! (19 ∷ 20 ∷ 17 ∷ 18 ∷ 15 ∷ 16 ∷ 13 ∷ 14 ∷ 11 ∷ 12 ∷ 9 ∷ 10 ∷ 7 ∷ 8 ∷ 5 ∷ 6 ∷ 3 ∷ 4 ∷ 1 ∷ 2 ∷ []) $ free1 ! $ free1 ! $ free1 ! $ free1 ! $ free1 ! $ free1 ! $ free1 ! $ free1 ! $ free1 ! $ free1 ! $ free0 ! $ done !)))))))))))))))
 
 -- what its contract says of the end and the message on entry, the reply, and the end on exit
-abbrev Says : End → Taken → Reply → End → Type 0
-Says h t r e = (r ≡ controlReply h t) × (e ≡ controlEnd h t)
+abbrev Claims : End → Taken → Reply → End → Type 0
+Claims h t r e = (r ≡ controlReply h t) × (e ≡ controlEnd h t)
 
 module _ {M : Type 1} (𝓤 : URA M) (H : Heap 𝓤) (A : Atoms 𝓤) (mem : Memory → SProp 𝓤) (run : Routine → Fun 𝓤) where
   abbrev Control : Contract 𝓤
@@ -193,27 +193,27 @@ module _ {M : Type 1} (𝓤 : URA M) (H : Heap 𝓤) (A : Atoms 𝓤) (W : Given
           peeks ! Ct.the-row (Is Ct.the-row) (shows 𝓤 H A Ct.the-row) y (u ∷ []) (λ is. drop ! $ now ! $ check ! (answer-known Ct.the-row (LL.vals Ct.the-type Ct′.the-laws) (LL.tells Ct.the-type Ct′.the-laws) y made u right is) $ done !)));
     }
 
-    next-passes : Is Ct.the-row made (made-val ∷ []) → Passes H C next-name (vptr b o ∷ vint w32 word ∷ vint w64 channel ∷ made-val ∷ []) R′.mir (lending 𝓤 H A W Says κ q b o γ h t t-is) (Post 𝓤 H A W Says κ q b o γ h t t-is)
+    next-passes : Is Ct.the-row made (made-val ∷ []) → Passes H C next-name (vptr b o ∷ vint w32 word ∷ vint w64 channel ∷ made-val ∷ []) R′.mir (lending 𝓤 H A W Claims κ q b o γ h t t-is) (Post 𝓤 H A W Claims κ q b o γ h t t-is)
     next-passes is = record {
       Ready = Parameter 𝓤 H A at-mem run .pre next-to;
       Q = Parameter 𝓤 H A at-mem run .post next-to;
       ready = qed W (L.lends 𝓤 H A W κ q b o γ h ∷ []) ∵ updating ! $ now ! $ split ! $ nothing ! $ owned ! Ct.the-row (Is Ct.the-row) (LL.makes Ct.the-type Ct′.the-plain 𝓤 H A) made _ is $ fjoin ! $ owned ! usize (Is usize) (uint-makes 𝓤 H A W w64) channel _ (refl, channel-fits) $ fjoin ! $ owned ! u32 (Is u32) (uint-makes 𝓤 H A W w32) word _ (refl, word-fits) $ fjoin ! $ move ! (1 ∷ 0 ∷ []) $ fjoin ! $ nothing ! $ move ! (2 ∷ 0 ∷ []) $ join ! $ join ! $ frame ! $ done !;
       met = next-known next-to;
-      answered = L.answers 𝓤 H A W κ q b o γ (Post 𝓤 H A W Says κ q b o γ h t t-is) (Says h t) (exits 𝓤 H A W Says κ q b o γ h t t-is) (Unit {0} × (Unit {0} × (Unit {0} × Unit {0}))) (λ zs. fsep ftrue (fsep ftrue (fsep ftrue (ftrue)))) (λ r e. (r ≡ updatedReply h word made) × (e ≡ parameterEnd h word channel made)) (λ r e said. said);
+      answered = L.answers 𝓤 H A W κ q b o γ (Post 𝓤 H A W Claims κ q b o γ h t t-is) (Claims h t) (exits 𝓤 H A W Claims κ q b o γ h t t-is) (Unit {0} × (Unit {0} × (Unit {0} × Unit {0}))) (λ zs. fsep ftrue (fsep ftrue (fsep ftrue (ftrue)))) (λ r e. (r ≡ updatedReply h word made) × (e ≡ parameterEnd h word channel made)) (λ r e claimed. claimed);
     }
 
-    walk : ent 𝓤 (lending 𝓤 H A W Says κ q b o γ h t t-is) (WpFn 𝓤 H C Λ code.function (vptr b o ∷ taken-val t ∷ []) (Post 𝓤 H A W Says κ q b o γ h t t-is))
+    walk : ent 𝓤 (lending 𝓤 H A W Claims κ q b o γ h t t-is) (WpFn 𝓤 H C Λ code.function (vptr b o ∷ taken-val t ∷ []) (Post 𝓤 H A W Claims κ q b o γ h t t-is))
     walk = walks 𝓤 H A W C Λ fm R′.mir (T.the-row .written .ty) Tk′.mir Ct′.mir Ps′.mir T′.mir b o
         refl refl refl refl refl
         _ _ _ _ _ _ (vint w32 word) channel _ (state-val stands) made-val (LL.val Rd.the-type Rd′.the-laws (h .reader)) (L.parameters h) (LL.val Rv.the-type Rv′.the-laws (h .receiver))
         (LL.lawful Tk.the-type Tk′.the-laws 𝓤 H A W .typed t _ t-is .0)
-        (lending 𝓤 H A W Says κ q b o γ h t t-is) (Post 𝓤 H A W Says κ q b o γ h t t-is) (mean 𝓤 H A (L.holds 𝓤 H A W κ q b o γ h)) (Is T.the-row h (end-val h ∷ [])) (Is Ct.the-row made (made-val ∷ []))
+        (lending 𝓤 H A W Claims κ q b o γ h t t-is) (Post 𝓤 H A W Claims κ q b o γ h t t-is) (mean 𝓤 H A (L.holds 𝓤 H A W κ q b o γ h)) (Is T.the-row h (end-val h ∷ [])) (Is Ct.the-row made (made-val ∷ []))
         (L.opens-here 𝓤 H A W κ q b o γ h) (L.parameters-count h) (λ was. L.parameter-spelled h was (channel % 16) channel<16 blankState) (λ was. LL.lawful Ps.the-type Ps′.the-laws 𝓤 H A W .typed stands _ (L.parameter-is h was (channel % 16) channel<16 blankState) .0)
         (λ was. control-gives (L.parameter-is h was (channel % 16) channel<16 blankState)) (λ is. LL.lawful Ct.the-type Ct′.the-laws 𝓤 H A W .typed made _ is .0)
         (λ was is. passes-since W (L.closes-at 𝓤 H A W κ q b o γ h _ h refl was) (next-passes is))
 
-receive-control-meets : {M : Type 1} (𝓤 : URA M) (H : Heap 𝓤) (A : Atoms 𝓤) → Given 𝓤 H A → (at-mem : Memory → SProp 𝓤) (run : Routine → Fun 𝓤) (𝓣 : Tables 𝓤 H) → Triple 𝓤 (𝓣 .C control-name) (Control 𝓤 H A at-mem run) → Triple 𝓤 (𝓣 .C next-name) (Parameter 𝓤 H A at-mem run) → Meets 𝓤 H A signature (WpFn 𝓤 H (𝓣 .C) (𝓣 .Λ) code.function) (spec 𝓤 H A Says)
-receive-control-meets 𝓤 H A W at-mem run 𝓣 control-known next-known = meets 𝓤 H A W Says 𝓣 code.function (λ κ q b o γ h t t-is fm. walk 𝓤 H A W at-mem run κ q b o γ h t t-is (𝓣 .C) (𝓣 .Λ) fm control-known next-known)
+receive-control-meets : {M : Type 1} (𝓤 : URA M) (H : Heap 𝓤) (A : Atoms 𝓤) → Given 𝓤 H A → (at-mem : Memory → SProp 𝓤) (run : Routine → Fun 𝓤) (𝓣 : Tables 𝓤 H) → Triple 𝓤 (𝓣 .C control-name) (Control 𝓤 H A at-mem run) → Triple 𝓤 (𝓣 .C next-name) (Parameter 𝓤 H A at-mem run) → Meets 𝓤 H A signature (WpFn 𝓤 H (𝓣 .C) (𝓣 .Λ) code.function) (spec 𝓤 H A Claims)
+receive-control-meets 𝓤 H A W at-mem run 𝓣 control-known next-known = meets 𝓤 H A W Claims 𝓣 code.function (λ κ q b o γ h t t-is fm. walk 𝓤 H A W at-mem run κ q b o γ h t t-is (𝓣 .C) (𝓣 .Λ) fm control-known next-known)
 
 pub receive-control-spec : {M : Type 1} → stated.statement M
 unfolding code.routine tablesOf

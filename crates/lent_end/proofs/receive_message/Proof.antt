@@ -102,8 +102,8 @@ module _ {M : Type 1} (𝓤 : URA M) (H : Heap 𝓤) (A : Atoms 𝓤) (W : Given
       land ! (from ! (stop !)) (init ! 15 refl typed) $ returns-within ! Post refl (look ! 15 refl) $ forget ! 1 refl $ forget ! 9 refl $ forget ! 11 refl $ forget ! 13 refl $ forget ! 15 refl $ move ! (15 ∷ 16 ∷ 13 ∷ 14 ∷ 11 ∷ 12 ∷ 9 ∷ 10 ∷ 7 ∷ 8 ∷ 5 ∷ 6 ∷ 3 ∷ 4 ∷ 1 ∷ 2 ∷ []) $ free1 ! $ free1 ! $ free1 ! $ free1 ! $ free1 ! $ free1 ! $ free1 ! $ free1 ! $ free0 ! $ done !)))))))))))
 
 -- what the four contracts say of the end and the message on entry, the reply, and the end on exit
-abbrev Says : End → Taken → Reply → End → Type 0
-Says h t r e = (r ≡ messageReply h t) × (e ≡ messageEnd h t)
+abbrev Claims : End → Taken → Reply → End → Type 0
+Claims h t r e = (r ≡ messageReply h t) × (e ≡ messageEnd h t)
 
 abbrev Controls : End → Taken → Reply → End → Type 0
 Controls h t r e = (r ≡ controlReply h t) × (e ≡ controlEnd h t)
@@ -119,28 +119,28 @@ module _ (h : End) (t : Taken) (r : Reply) (e : End) where
   abbrev Changes : Type 0
   Changes = (r ≡ changedReply h t) × (e ≡ changedEnd h t)
 
-  changes-right : Holds (t .control) → Changes → Says h t r e
-  changes-right s said = (said .0 ∙ sym (taken (t .control) (changedReply h t) (eventReply (h .receiver) (t .word)) s), said .1 ∙ sym (taken (t .control) (changedEnd h t) (storedEnd h t) s))
+  changes-right : Holds (t .control) → Changes → Claims h t r e
+  changes-right s claimed = (claimed .0 ∙ sym (taken (t .control) (changedReply h t) (eventReply (h .receiver) (t .word)) s), claimed .1 ∙ sym (taken (t .control) (changedEnd h t) (storedEnd h t) s))
 
-  brights-right : Holds (t .control) → Holds (t .brightens) → Brights h t r e → Says h t r e
-  brights-right s u said = changes-right s (said .0 ∙ sym (taken (t .brightens) (eventReply (h .receiver) (t .word)) (controlReply h t) u), said .1 ∙ sym (taken (t .brightens) (brightnessEnd h t) (controlEnd h t) u))
+  brights-right : Holds (t .control) → Holds (t .brightens) → Brights h t r e → Claims h t r e
+  brights-right s u claimed = changes-right s (claimed .0 ∙ sym (taken (t .brightens) (eventReply (h .receiver) (t .word)) (controlReply h t) u), claimed .1 ∙ sym (taken (t .brightens) (brightnessEnd h t) (controlEnd h t) u))
 
-  controls-right : Holds (t .control) → Holds (not (t .brightens)) → Controls h t r e → Says h t r e
-  controls-right s u said = changes-right s (said .0 ∙ sym (untaken (t .brightens) (eventReply (h .receiver) (t .word)) (controlReply h t) u), said .1 ∙ sym (untaken (t .brightens) (brightnessEnd h t) (controlEnd h t) u))
+  controls-right : Holds (t .control) → Holds (not (t .brightens)) → Controls h t r e → Claims h t r e
+  controls-right s u claimed = changes-right s (claimed .0 ∙ sym (untaken (t .brightens) (eventReply (h .receiver) (t .word)) (controlReply h t) u), claimed .1 ∙ sym (untaken (t .brightens) (brightnessEnd h t) (controlEnd h t) u))
 
-  others-right : Holds (not (t .control)) → Others h t r e → Says h t r e
-  others-right s said = (said .0 ∙ sym (untaken (t .control) (changedReply h t) (eventReply (h .receiver) (t .word)) s), said .1 ∙ sym (untaken (t .control) (changedEnd h t) (storedEnd h t) s))
+  others-right : Holds (not (t .control)) → Others h t r e → Claims h t r e
+  others-right s claimed = (claimed .0 ∙ sym (untaken (t .control) (changedReply h t) (eventReply (h .receiver) (t .word)) s), claimed .1 ∙ sym (untaken (t .control) (changedEnd h t) (storedEnd h t) s))
 
-receive-message-meets : {M : Type 1} (𝓤 : URA M) (H : Heap 𝓤) (A : Atoms 𝓤) → Given 𝓤 H A → (𝓣 : Tables 𝓤 H) → Triple 𝓤 (𝓣 .C bright-name) (Onto 𝓤 H A Brights) → Triple 𝓤 (𝓣 .C control-name) (Onto 𝓤 H A Controls) → Triple 𝓤 (𝓣 .C other-name) (Onto 𝓤 H A Others) → Meets 𝓤 H A signature (WpFn 𝓤 H (𝓣 .C) (𝓣 .Λ) code.function) (spec 𝓤 H A Says)
-receive-message-meets 𝓤 H A W 𝓣 bright-known control-known other-known = meets 𝓤 H A W Says 𝓣 code.function (λ κ q b o γ h t t-is fm.
+receive-message-meets : {M : Type 1} (𝓤 : URA M) (H : Heap 𝓤) (A : Atoms 𝓤) → Given 𝓤 H A → (𝓣 : Tables 𝓤 H) → Triple 𝓤 (𝓣 .C bright-name) (Onto 𝓤 H A Brights) → Triple 𝓤 (𝓣 .C control-name) (Onto 𝓤 H A Controls) → Triple 𝓤 (𝓣 .C other-name) (Onto 𝓤 H A Others) → Meets 𝓤 H A signature (WpFn 𝓤 H (𝓣 .C) (𝓣 .Λ) code.function) (spec 𝓤 H A Claims)
+receive-message-meets 𝓤 H A W 𝓣 bright-known control-known other-known = meets 𝓤 H A W Claims 𝓣 code.function (λ κ q b o γ h t t-is fm.
     walks 𝓤 H A W (𝓣 .C) (𝓣 .Λ) fm R′.mir (T.the-row .written .ty) Tk′.mir T′.mir b o
     refl refl
     _ _ _ (t .control) _ _ _ _ (t .brightens) _
     (LL.lawful Tk.the-type Tk′.the-laws 𝓤 H A W .typed t _ t-is .0)
-    (lending 𝓤 H A W Says κ q b o γ h t t-is) (Post 𝓤 H A W Says κ q b o γ h t t-is)
-    (λ s u. passes 𝓤 H A W Says κ q b o γ h t t-is (𝓣 .C) bright-name Brights bright-known (λ r e. brights-right h t r e s u))
-    (λ s u. passes 𝓤 H A W Says κ q b o γ h t t-is (𝓣 .C) control-name Controls control-known (λ r e. controls-right h t r e s u))
-    (λ s. passes 𝓤 H A W Says κ q b o γ h t t-is (𝓣 .C) other-name Others other-known (λ r e. others-right h t r e s)))
+    (lending 𝓤 H A W Claims κ q b o γ h t t-is) (Post 𝓤 H A W Claims κ q b o γ h t t-is)
+    (λ s u. passes 𝓤 H A W Claims κ q b o γ h t t-is (𝓣 .C) bright-name Brights bright-known (λ r e. brights-right h t r e s u))
+    (λ s u. passes 𝓤 H A W Claims κ q b o γ h t t-is (𝓣 .C) control-name Controls control-known (λ r e. controls-right h t r e s u))
+    (λ s. passes 𝓤 H A W Claims κ q b o γ h t t-is (𝓣 .C) other-name Others other-known (λ r e. others-right h t r e s)))
 
 pub receive-message-spec : {M : Type 1} → stated.statement M
 unfolding code.routine tablesOf

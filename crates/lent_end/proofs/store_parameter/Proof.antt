@@ -197,7 +197,7 @@ module _ {M : Type 1} (𝓤 : URA M) (H : Heap 𝓤) (A : Atoms 𝓤) (W : Given
         (tt, record { fits = word-fits }) channel-fits (LL.lawful Ct.the-type Ct′.the-laws 𝓤 H A W .typed c _ c-is .0) (LL.lawful Ps.the-type Ps′.the-laws 𝓤 H A W .typed (c .state) _ state-is .0)
         (lending h) Post holding (Is T.the-row h (end-val h ∷ []))
         (L.opens-here 𝓤 H A W κ q b o γ h) (L.parameters-count h)
-        (λ was. passes-since W (L.closes-at 𝓤 H A W κ q b o γ h _ put-in spelled (made was)) (next-passes put-in word c word-fits c-is (λ r e said. said))))
+        (λ was. passes-since W (L.closes-at 𝓤 H A W κ q b o γ h _ put-in spelled (made was)) (next-passes put-in word c word-fits c-is (λ r e claimed. claimed))))
 
 module _ {M : Type 1} (𝓤 : URA M) (H : Heap 𝓤) (A : Atoms 𝓤) (W : Given 𝓤 H A) (at-mem : Memory → SProp 𝓤) (run : Routine → Fun 𝓤) where
   store-parameter-walks : (C : Calls 𝓤 H) (Λ : Loops 𝓤 H) → FmC 𝓤 H (W .laws) C → Triple 𝓤 (C next-name) (Receiver 𝓤 H A at-mem run) → Walks 𝓤 H A f.ended stayed (WpFn 𝓤 H C Λ code.function) (f.clauses 𝓤 H A at-mem run)

@@ -155,10 +155,10 @@ module _ {M : Type 1} (𝓤 : URA M) (H : Heap 𝓤) (A : Atoms 𝓤) (W : Given
   only-to = (((κ, tt), (q, tt), tt, (record { ptr = (b, o); name = γ; now = h }, (word, tt)), (vptr b o ∷ [], ((vint w32 word) ∷ [], tt))), tt)
 
   settle-right : Holds (c .settles) → (r : Reply) (e : End) → (r ≡ settledReply h word (c .event)) × (e ≡ settledEnd h word (c .event)) → Right r e
-  settle-right s r e said = (said .0 ∙ sym (taken (c .settles) (settledReply h word (c .event)) (eventReply (h .receiver) word) s), said .1 ∙ sym (taken (c .settles) (settledEnd h word (c .event)) h s))
+  settle-right s r e claimed = (claimed .0 ∙ sym (taken (c .settles) (settledReply h word (c .event)) (eventReply (h .receiver) word) s), claimed .1 ∙ sym (taken (c .settles) (settledEnd h word (c .event)) h s))
 
   only-right : Holds (not (c .settles)) → (r : Reply) (e : End) → (r ≡ eventReply (h .receiver) word) × (e ≡ h) → Right r e
-  only-right s r e said = (said .0 ∙ sym (untaken (c .settles) (settledReply h word (c .event)) (eventReply (h .receiver) word) s), said .1 ∙ sym (untaken (c .settles) (settledEnd h word (c .event)) h s))
+  only-right s r e claimed = (claimed .0 ∙ sym (untaken (c .settles) (settledReply h word (c .event)) (eventReply (h .receiver) word) s), claimed .1 ∙ sym (untaken (c .settles) (settledEnd h word (c .event)) h s))
 
   module _ (C : Calls 𝓤 H) (Λ : Loops 𝓤 H) (fm : FmC 𝓤 H (W .laws) C) (settle-known : Triple 𝓤 (C settle-name) (Settle 𝓤 H A at-mem run)) (only-known : Triple 𝓤 (C only-name) (Only 𝓤 H A at-mem run)) where
     settle-passes : Holds (c .settles) → Passes H C settle-name (vptr b o ∷ (vint w32 word) ∷ (EL.val Me.the-type Me′.the-laws (c .event)) ∷ []) R′.mir lending Post
