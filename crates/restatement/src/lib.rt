@@ -10,13 +10,14 @@ ghost use Rattle.ump.specs.Word.{bendWord, oneDataWord, controlChange, messageM
 ghost use Rattle.ump.specs.Packet.{packetValue};
 ghost use Rattle.mpe_layout.specs.Layout.{legal};
 ghost use Rattle.mpe_sender.specs.Zone.{filled, writtenRead};
-ghost use Rattle.settings.specs.Settings.{zoneAllowed, channelAllowed, andChannel, channelsAllowed, allowed};
+ghost use Rattle.settings.specs.Settings.{zoneOf, membersIn, shownSensitivity, shownMode, zoneAllowed, channelAllowed, andChannel, channelsAllowed, allowed};
 ghost use Rattle.settings.specs.Messages.{resets, announcements, sensitivities, modes, deselections, controls, messages, bytesOf, bytes, restatement, oneIfAny, messageCount, byteCount, restatedReply, CountsHold, wordsIn, countIn};
 ghost use Rattle.settings.specs.Demand.{Demand};
 ghost use Rattle.settings.specs.Witnesses.{Met};
 use mpe_layout::MadeLayout;
 use mpe_layout::MpeLayout;
 use mpe_layout::MpeZone;
+use mpe_pitch::MpeSensitivity;
 use mpe_sender::Written;
 use mpe_sender::mcm_messages;
 use mpe_sender::mode_message;
@@ -190,14 +191,70 @@ fn place_after(at: usize, written: Written) -> usize
     }
 }
 
+// The settings of a zone.
+fn zone_settings(settings: Settings, zone: MpeZone) -> ZoneSettings
+    ensures { λ r. ⌜ r ≡ zoneOf settings zone ⌝ }
+{
+    match zone {
+        MpeZone::Lower => settings.lower,
+        MpeZone::Upper => settings.upper,
+    }
+}
+
+// How many members a zone has.
+fn zone_members(settings: Settings, zone: MpeZone) -> u8
+    ensures { λ r. ⌜ r ≡ membersIn settings zone ⌝ }
+{
+    match zone {
+        MpeZone::Lower => settings.layout.lower,
+        MpeZone::Upper => settings.layout.upper,
+    }
+}
+
+// The sensitivity of a zone's manager or members that an end shows after a restatement: the semitones that are set and no cents, or without members
+// the default.
+fn shown_sensitivity(settings: Settings, zone: MpeZone, manager: bool) -> MpeSensitivity
+    ensures { λ r. ⌜ r ≡ shownSensitivity settings zone manager ⌝ }
+{
+    let set = zone_settings(settings, zone);
+    let members = zone_members(settings, zone);
+    if manager {
+        if members == 0 {
+            return MpeSensitivity::MANAGER_DEFAULT;
+        }
+        return MpeSensitivity {
+            semitones: set.manager,
+            cents: 0,
+        };
+    }
+    if members == 0 {
+        return MpeSensitivity::MEMBER_DEFAULT;
+    }
+    MpeSensitivity {
+        semitones: set.member,
+        cents: 0,
+    }
+}
+
+// The mode of a zone that an end shows after a restatement: the one that is set, or without members 3.
+fn shown_mode(settings: Settings, zone: MpeZone) -> u8
+    ensures { λ r. ⌜ r ≡ shownMode settings zone ⌝ }
+{
+    let set = zone_settings(settings, zone);
+    if zone_members(settings, zone) == 0 {
+        return 3;
+    }
+    set.mode
+}
+
 // C. The sensitivities of a zone, if it has members; gives the place after them.
 fn write_sensitivities(out: &mut [u32], at: usize, settings: Settings, zone: MpeZone) -> usize
     requires { ⌜ (allowed settings ≡ true) × (at + length (sensitivities settings zone) ≤ length (now out)) ⌝ }
     ensures place { λ r. ⌜ r ≡ at + length (sensitivities settings zone) ⌝ }
     ensures buffer { λ _. ⌜ now (out .exit) ≡ sets (now (out .entry)) at (sensitivities settings zone) ⌝ }
 {
-    let manager = settings.shown_sensitivity(zone, true);
-    let member = settings.shown_sensitivity(zone, false);
+    let manager = shown_sensitivity(settings, zone, true);
+    let member = shown_sensitivity(settings, zone, false);
     let written = zone_sensitivity_messages(
         settings.layout,
         zone,
@@ -214,7 +271,7 @@ fn write_mode(out: &mut [u32], at: usize, settings: Settings, zone: MpeZone) -> 
     ensures place { λ r. ⌜ r ≡ at + length (modes settings zone) ⌝ }
     ensures buffer { λ _. ⌜ now (out .exit) ≡ sets (now (out .entry)) at (modes settings zone) ⌝ }
 {
-    let mono = settings.shown_mode(zone) == 4;
+    let mono = shown_mode(settings, zone) == 4;
     put_one(out, at, mode_message(settings.layout, zone, mono))
 }
 

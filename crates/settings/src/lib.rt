@@ -1,9 +1,8 @@
 // Settings of an end. What brings an end to them, and the theorem about it, stand in specs/ and proofs/.
 ghost use mathlib.Core.Path.{_≡_};
 ghost use mathlib.Core.Bool.{true};
-ghost use Rattle.settings.specs.Settings.{newZone, newSettings, zoneOf, membersIn, shownSensitivity, shownMode, allowed};
+ghost use Rattle.settings.specs.Settings.{newZone, newSettings, allowed};
 use mpe_layout::MpeLayout;
-use mpe_layout::MpeZone;
 use mpe_pitch::MpeSensitivity;
 
 // What is set for a zone: semitones 0 to 96 of its manager and of its members, and mode 3 or 4. Of a zone without members nothing is read.
@@ -52,61 +51,5 @@ impl Settings {
             pressure: [0; 16],
             brightness: [64; 16],
         }
-    }
-
-    // The settings of a zone.
-    fn zone(self, zone: MpeZone) -> ZoneSettings
-        ensures { λ r. ⌜ r ≡ zoneOf self zone ⌝ }
-    {
-        match zone {
-            MpeZone::Lower => self.lower,
-            MpeZone::Upper => self.upper,
-        }
-    }
-
-    // How many members a zone has.
-    fn members(self, zone: MpeZone) -> u8
-        ensures { λ r. ⌜ r ≡ membersIn self zone ⌝ }
-    {
-        match zone {
-            MpeZone::Lower => self.layout.lower,
-            MpeZone::Upper => self.layout.upper,
-        }
-    }
-
-    // The sensitivity of a zone's manager or members that an end shows after a restatement: the semitones that are set and no cents, or without members
-    // the default.
-    pub fn shown_sensitivity(self, zone: MpeZone, manager: bool) -> MpeSensitivity
-        ensures { λ r. ⌜ r ≡ shownSensitivity self zone manager ⌝ }
-    {
-        let set = self.zone(zone);
-        let members = self.members(zone);
-        if manager {
-            if members == 0 {
-                return MpeSensitivity::MANAGER_DEFAULT;
-            }
-            return MpeSensitivity {
-                semitones: set.manager,
-                cents: 0,
-            };
-        }
-        if members == 0 {
-            return MpeSensitivity::MEMBER_DEFAULT;
-        }
-        MpeSensitivity {
-            semitones: set.member,
-            cents: 0,
-        }
-    }
-
-    // The mode of a zone that an end shows after a restatement: the one that is set, or without members 3.
-    pub fn shown_mode(self, zone: MpeZone) -> u8
-        ensures { λ r. ⌜ r ≡ shownMode self zone ⌝ }
-    {
-        let set = self.zone(zone);
-        if self.members(zone) == 0 {
-            return 3;
-        }
-        set.mode
     }
 }
