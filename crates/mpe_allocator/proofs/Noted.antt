@@ -1,4 +1,4 @@
--- What the answers about a zone tell, and what a note gets by them, which `allocationOf` computes.
+-- What follows from the answers about a zone, and what a note gets by them, which `allocationOf` computes.
 -- Assumes nothing.
 use mathlib.Core.Path.{_≡_, refl, sym, ap, subst}
 use mathlib.Core.Bool.{Bool, true, false}
@@ -56,25 +56,25 @@ uncounted-by true n h = differ (cc)
 uncounted-by false n h = refl
 
 module _ (l : MpeLayout) (zone : MpeZone) where
-  pub told-out : outOfRange ≡ ofLegal l (lowestOrNone zone (membersOf l zone)) → legal l ≡ false
-  told-out h = out-by (legal l) (eqb (membersOf l zone) 0) (lowestOf l zone) h
+  pub found-out : outOfRange ≡ ofLegal l (lowestOrNone zone (membersOf l zone)) → legal l ≡ false
+  found-out h = out-by (legal l) (eqb (membersOf l zone) 0) (lowestOf l zone) h
 
-  pub told-none : noneThere ≡ ofLegal l (lowestOrNone zone (membersOf l zone)) → (legal l ≡ true) × (membersOf l zone ≡ 0)
-  told-none h =
+  pub found-none : noneThere ≡ ofLegal l (lowestOrNone zone (membersOf l zone)) → (legal l ≡ true) × (membersOf l zone ≡ 0)
+  found-none h =
       let b = none-by (legal l) (eqb (membersOf l zone) 0) (lowestOf l zone) h in
       (b .0, eqb-true (membersOf l zone) 0 (b .1))
 
-  pub told-lowest : (first : ℕ) → given first ≡ ofLegal l (lowestOrNone zone (membersOf l zone)) → (legal l ≡ true) × (0 < membersOf l zone) × (first ≡ lowestOf l zone)
-  told-lowest first h =
+  pub found-lowest : (first : ℕ) → given first ≡ ofLegal l (lowestOrNone zone (membersOf l zone)) → (legal l ≡ true) × (0 < membersOf l zone) × (first ≡ lowestOf l zone)
+  found-lowest first h =
       let b = given-by (legal l) (eqb (membersOf l zone) 0) (lowestOf l zone) first h in
       let n : membersOf l zone ≡ 0 → ⊥ = eqb-false (membersOf l zone) 0 (b .1) in
       (b .0, omega arith, b .2)
 
-  pub told-count : (n : ℕ) → given n ≡ ofLegal l (given (membersOf l zone)) → n ≡ membersOf l zone
-  told-count n h = count-by (legal l) (membersOf l zone) n h
+  pub found-count : (n : ℕ) → given n ≡ ofLegal l (given (membersOf l zone)) → n ≡ membersOf l zone
+  found-count n h = count-by (legal l) (membersOf l zone) n h
 
-  pub told-uncounted : outOfRange ≡ ofLegal l (given (membersOf l zone)) → legal l ≡ false
-  told-uncounted h = uncounted-by (legal l) (membersOf l zone) h
+  pub found-uncounted : outOfRange ≡ ofLegal l (given (membersOf l zone)) → legal l ≡ false
+  found-uncounted h = uncounted-by (legal l) (membersOf l zone) h
 
 -- the members are channels
 pub members-end : (l : MpeLayout) (zone : MpeZone) → legal l ≡ true → lowestOf l zone + membersOf l zone ≤ 16

@@ -1,4 +1,4 @@
--- What a message leaves of the zones: RPN 0 changes one sensitivity, a message on a member at most its zone's mode, and an event that tells of no change tells the truth.
+-- What a message leaves of the zones: RPN 0 changes one sensitivity, a message on a member at most its zone's mode, and where an event reports no change there is none.
 -- Assumes nothing.
 use Prim.Native.Nat.{ℕ, _+_, _*_, _/_, _%_}
 use mathlib.Core.Path.{_≡_, refl, ap, sym, _∙_}

@@ -117,7 +117,7 @@ controlled s n v =
     if eqb n 97 then entered s Decrement else
     parameterUpdate (numberStored s n v) NoEvent
 
--- only control changes are heard
+-- only control changes act (document 01)
 abbrev pub updateByFields : ParameterState → ℕ → ℕ → ℕ → ParameterUpdate
 updateByFields s opcode a b = if eqb opcode 0xB then controlled s a b else parameterUpdate s NoEvent
 

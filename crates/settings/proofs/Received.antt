@@ -1,4 +1,4 @@
--- Messages as bytes: their bytes one after another, and an end that hears them stays well formed.
+-- Messages as bytes: their bytes one after another, and an end that receives them stays well formed.
 -- Assumes nothing.
 use Prim.Native.Nat.{ℕ, zero, suc, _<_, _≤_}
 use mathlib.Core.Path.{_≡_, ap, sym, _∙_, subst}
@@ -17,7 +17,7 @@ use Rattle.receiving_end.proofs.Always.{after-formed}
 use Rattle.settings.specs.Messages.{eachChannel, bytes}
 use Rattle.settings.proofs.Bytes.{bytes-append, control-bytes}
 
--- an end that hears messages
+-- an end that receives messages
 abbrev pub received-all : End → List ℕ → End
 received-all e ws = afterBytes e (bytes ws)
 

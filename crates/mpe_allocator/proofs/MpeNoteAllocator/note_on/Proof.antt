@@ -5,7 +5,7 @@ use mathlib.Core.Path.{_≡_, _∙_, sym, ap}
 use mathlib.Core.Bool.{true}
 use Prim.Native.Nat.{_<_}
 use Rattle.mpe_layout.specs.Layout.{legal, membersOf, lowestOf, lowestFound, membersFound}
-use Rattle.mpe_allocator.proofs.Noted.{told-out, told-none, told-lowest, told-count, told-uncounted, members-end, in-illegal, in-empty, in-channels}
+use Rattle.mpe_allocator.proofs.Noted.{found-out, found-none, found-lowest, found-count, found-uncounted, members-end, in-illegal, in-empty, in-channels}
 use borrow.Author.Needs.{needs}
 use Rattle.mpe_allocator.proofs.MpeNoteAllocator.note_on.Statement.{statement}
 use Rattle.mpe_allocator.proofs.MpeNoteAllocator.note_on.Tie as tie
@@ -50,12 +50,12 @@ cast-place c = search needs
 found : (c : tie.After-known-told) → (legal (c .before .before .before .before .args .layout) ≡ true) × (0 < membersOf (c .before .before .before .before .args .layout) (c .before .before .before .before .args .zone)) × (c .before .first .given .0 .0 ≡ lowestOf (c .before .before .before .before .args .layout) (c .before .before .before .before .args .zone))
 found c =
     let a = c .before .before .before .before .args in
-    told-lowest (a .layout) (a .zone) (c .before .first .given .0 .0) (ap lowestFound (sym (c .before .first .given .1)) ∙ c .before .before .before .lowest-member .ensures)
+    found-lowest (a .layout) (a .zone) (c .before .first .given .0 .0) (ap lowestFound (sym (c .before .first .given .1)) ∙ c .before .before .before .lowest-member .ensures)
 
 count : (c : tie.After-known-told2) → c .before .n .given .0 .0 ≡ membersOf (c .before .before .before .before .before .before .before .before .args .layout) (c .before .before .before .before .before .before .before .before .args .zone)
 count c =
     let a = c .before .before .before .before .before .before .before .before .args in
-    told-count (a .layout) (a .zone) (c .before .n .given .0 .0) (ap membersFound (sym (c .before .n .given .1)) ∙ c .before .before .before .members .ensures)
+    found-count (a .layout) (a .zone) (c .before .n .given .0 .0) (ap membersFound (sym (c .before .n .given .1)) ∙ c .before .before .before .members .ensures)
 
 place-requires : tie.Need-place-requires
 place-requires c κs =
@@ -66,18 +66,18 @@ place-requires c κs =
 returns : tie.Need-returns
 returns c =
     let a = c .before .before .before .args in
-    in-illegal (a .self) (a .layout) (a .zone) (a .note) (told-out (a .layout) (a .zone) (ap lowestFound (sym (c .enum-told .given .1)) ∙ c .before .before .lowest-member .ensures))
+    in-illegal (a .self) (a .layout) (a .zone) (a .note) (found-out (a .layout) (a .zone) (ap lowestFound (sym (c .enum-told .given .1)) ∙ c .before .before .lowest-member .ensures))
 
 returns-2 : tie.Need-returns-2
 returns-2 c =
     let a = c .before .before .before .args in
-    let t = told-none (a .layout) (a .zone) (ap lowestFound (sym (c .enum-told2 .given .1)) ∙ c .before .before .lowest-member .ensures) in
+    let t = found-none (a .layout) (a .zone) (ap lowestFound (sym (c .enum-told2 .given .1)) ∙ c .before .before .lowest-member .ensures) in
     in-empty (a .self) (a .layout) (a .zone) (a .note) (t .0) (t .1)
 
 returns-3 : tie.Need-returns-3
 returns-3 c =
     let a = c .before .before .before .before .before .before .before .args in
-    in-illegal (a .self) (a .layout) (a .zone) (a .note) (told-uncounted (a .layout) (a .zone) (ap membersFound (sym (c .enum-told3 .given .1)) ∙ c .before .before .members .ensures))
+    in-illegal (a .self) (a .layout) (a .zone) (a .note) (found-uncounted (a .layout) (a .zone) (ap membersFound (sym (c .enum-told3 .given .1)) ∙ c .before .before .members .ensures))
 
 returns-4 : tie.Need-returns-4
 returns-4 c =
