@@ -80,8 +80,8 @@ got OutOfRange = 0
 got NoMembers = 0
 
 -- 1 for a count above 0
-abbrev pub met : ℕ → ℕ
-met held = if eqb held 0 then 0 else 1
+abbrev pub oneIfHeld : ℕ → ℕ
+oneIfHeld held = if eqb held 0 then 0 else 1
 
 -- a tally after a call on allocator a
 unfoldable pub tallied : MpeNoteAllocator → Tally → AllocatorCall → Tally
@@ -92,7 +92,7 @@ tallied a t (note-on l zone note) =
       reached = t .reached || full (allocationOf a l zone note .allocator .active);
     }
 tallied a t (note-off channel) =
-    record { ons = t .ons; offs = t .offs + met (heldOn a (packetValue channel)); reached = t .reached }
+    record { ons = t .ons; offs = t .offs + oneIfHeld (heldOn a (packetValue channel)); reached = t .reached }
 tallied a t (active-notes channel) = t
 tallied a t same-note = t
 tallied a t (set-same-note on) = t

@@ -3,7 +3,6 @@ pub mod Rest
 pub mod Parts
 pub mod Offsets
 pub mod WellFormed
-pub mod Kept
 pub mod Resets
 pub mod Range
 pub mod Bench

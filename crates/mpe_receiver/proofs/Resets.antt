@@ -17,6 +17,7 @@ use Rattle.mpe_layout.specs.Reset.{named}
 use Rattle.mpe_receiver.specs.declared.MpeReceiver.{MpeReceiver}
 use Rattle.mpe_receiver.specs.Receive.{putWhere, restUpto}
 use Rattle.mpe_receiver.specs.Read.{bendAt, pressureAt, brightnessAt}
+use Rattle.mpe_receiver.specs.Claims.{MaskRests}
 use Rattle.mpe_receiver.specs.WellFormed.{ReceiverFormed}
 use Rattle.mpe_receiver.proofs.WellFormed.{put-length}
 
@@ -52,11 +53,15 @@ module _ (r : MpeReceiver) (mask channel : ℕ) (w : ReceiverFormed r) where
       let m : named mask (packetValue channel) ≡ named mask channel = rw mod-mod in
       rw m at (put-at (named mask) v l 16 (packetValue channel) (mod-lt channel (lit< tt)) (omega arith))
 
-  pub rested-bend : bendAt (restUpto r mask 16) channel ≡ (if named mask channel then 0x2000 else bendAt r channel)
+  rested-bend : bendAt (restUpto r mask 16) channel ≡ (if named mask channel then 0x2000 else bendAt r channel)
   rested-bend = rested 0x2000 (r .«pitch_bend») (w .bends)
 
-  pub rested-pressure : pressureAt (restUpto r mask 16) channel ≡ (if named mask channel then 0 else pressureAt r channel)
+  rested-pressure : pressureAt (restUpto r mask 16) channel ≡ (if named mask channel then 0 else pressureAt r channel)
   rested-pressure = rested 0 (r .pressure) (w .pressures)
 
-  pub rested-brightness : brightnessAt (restUpto r mask 16) channel ≡ (if named mask channel then 64 else brightnessAt r channel)
+  rested-brightness : brightnessAt (restUpto r mask 16) channel ≡ (if named mask channel then 64 else brightnessAt r channel)
   rested-brightness = rested 64 (r .brightness) (w .brightnesses)
+
+pub mask-rests : MaskRests
+mask-rests r mask channel w =
+    record { its-bend = rested-bend r mask channel w; its-pressure = rested-pressure r mask channel w; its-brightness = rested-brightness r mask channel w }

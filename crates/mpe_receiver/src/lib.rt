@@ -9,6 +9,7 @@ ghost use Rattle.mpe_zones.specs.Update.{mpeReplyRead, resetIn};
 ghost use Rattle.mpe_receiver.specs.State.{newReceiver, zonesOf, withZones};
 ghost use Rattle.mpe_receiver.specs.Receive.{stored, restUpto, receiverReply, receiverAfter, setReply, setState, settled};
 ghost use Rattle.mpe_receiver.specs.Read.{modeOf, sensitivityOf, bendAt, pressureAt, brightnessAt, managerOffset, memberOffset, offsetByRole, offsetOf, offsetRead};
+ghost use Rattle.mpe_receiver.specs.Claims.{MaskRests};
 ghost use Rattle.mpe_receiver.specs.Bench.{TableHolds};
 use mpe_layout::MpeLayout;
 use mpe_layout::MpeRole;
@@ -208,6 +209,7 @@ impl MpeReceiver {
     pub fn set_layout(self, layout: MpeLayout) -> LayoutSet
         ensures reply { λ r. ⌜ maskFound (r .reply) ≡ setReply self layout ⌝ }
         ensures state { λ r. ⌜ r .receiver ≡ setState self layout ⌝ }
+        ensures rests { λ _. ⌜ MaskRests ⌝ }
     {
         let set = self.zones().set_layout(layout);
         let zones = set.zones;

@@ -1,17 +1,20 @@
 -- An activated zone reads its defaults, and the other zone as before.
 -- Assumes nothing.
 use Prim.Native.Nat.{ℕ}
-use mathlib.Core.Path.{_≡_, refl, _∙_}
+use mathlib.Core.Path.{_≡_, refl, sym, _∙_, subst}
 use mathlib.Core.Bool.{Bool, true, false}
 use mathlib.Core.List.{List}
 use native.Mathlib.Omega.{arith}
 use lib.ListN.{length-set}
+use borrow.Author.Tests.{lt-ltb}
+use Rattle.ump.proofs.Cases.{chosen}
 use Rattle.mpe_layout.specs.declared.MpeZone.{MpeZone}
 use Rattle.mpe_layout.specs.declared.MpeZone.the-variants.{Lower, Upper}
 use Rattle.mpe_layout.specs.Layout.{otherZone}
 use Rattle.mpe_pitch.specs.Pitch.{managerDefault, memberDefault}
 use Rattle.mpe_zones.specs.declared.Zones.{Zones}
-use Rattle.mpe_zones.specs.Zones.{withSensitivities, withMono, monoOf, slotOf, sensitivityPut, sensitivityAt, zoneSensitivity, activated}
+use Rattle.mpe_zones.specs.Zones.{withMono, monoOf, slotOf, sensitivityPut, sensitivityAt, zoneSensitivity, activated}
+use Rattle.mpe_zones.specs.Claims.{Activation, Activates}
 use Rattle.mpe_zones.specs.WellFormed.{ZonesFormed}
 use Rattle.mpe_zones.proofs.Slots.{slot-fits, slot-even, halves-apart, zones-apart, put-same, put-other}
 
@@ -31,33 +34,45 @@ module _ (z : Zones) (zone : MpeZone) where
   beside y m ne =
       rw mono-beside (put-other managed (slotOf zone false) (slotOf y m) _ _ (slot-even zone false) (slot-even y m) ne)
 
-  -- nothing changes but the zone's mode and sensitivities
-  pub activated-only : activated z zone ≡ withMono (withSensitivities z (activated z zone .sensitivity)) zone false
-  unfolding activated
-  activated-only = rw mono-beside
-
-  pub activated-manager : ZonesFormed z → zoneSensitivity (activated z zone) zone true ≡ managerDefault
+  activated-manager : ZonesFormed z → zoneSensitivity (activated z zone) zone true ≡ managerDefault
   activated-manager w =
       beside zone true (halves-apart zone)
       ∙ put-same (z .sensitivity) (slotOf zone true) _ _ (omega (arith, slot-fits zone true, w .sensitivities))
 
-  pub activated-members : ZonesFormed z → zoneSensitivity (activated z zone) zone false ≡ memberDefault
+  activated-members : ZonesFormed z → zoneSensitivity (activated z zone) zone false ≡ memberDefault
   unfolding activated
   activated-members w =
       rw mono-beside
       (put-same managed (slotOf zone false) _ _ (simp length-set (omega (arith, slot-fits zone false, w .sensitivities))))
 
-  pub activated-other : (manager : Bool) → zoneSensitivity (activated z zone) (otherZone zone) manager ≡ zoneSensitivity z (otherZone zone) manager
+  activated-other : (manager : Bool) → zoneSensitivity (activated z zone) (otherZone zone) manager ≡ zoneSensitivity z (otherZone zone) manager
   activated-other manager =
       beside (otherZone zone) manager (zones-apart zone manager false)
       ∙ put-other (z .sensitivity) (slotOf zone true) (slotOf (otherZone zone) manager) _ _ (slot-even zone true) (slot-even (otherZone zone) manager) (zones-apart zone manager true)
 
-pub activated-mode : (z : Zones) (zone : MpeZone) → monoOf (activated z zone) zone ≡ false
+activated-mode : (z : Zones) (zone : MpeZone) → monoOf (activated z zone) zone ≡ false
 unfolding activated
 activated-mode z Lower = refl
 activated-mode z Upper = refl
 
-pub activated-other-mode : (z : Zones) (zone : MpeZone) → monoOf (activated z zone) (otherZone zone) ≡ monoOf z (otherZone zone)
+activated-other-mode : (z : Zones) (zone : MpeZone) → monoOf (activated z zone) (otherZone zone) ≡ monoOf z (otherZone zone)
 unfolding activated
 activated-other-mode z Lower = refl
 activated-other-mode z Upper = refl
+
+layout-beside : (z : Zones) (zone : MpeZone) → activated z zone .layout ≡ z .layout
+unfolding activated
+layout-beside z Lower = refl
+layout-beside z Upper = refl
+
+pub activates : Activates
+activates z zone members w some =
+    subst (Activation z zone) (sym (chosen (activated z zone) z (lt-ltb 0 members some)))
+    (record {
+      its-manager = activated-manager z zone w;
+      its-members = activated-members z zone w;
+      its-mode = activated-mode z zone;
+      other-sensitivities = activated-other z zone;
+      other-mode = activated-other-mode z zone;
+      same-layout = layout-beside z zone;
+    })

@@ -34,6 +34,7 @@ use Rattle.mpe_zones.specs.declared.Zones.{Zones}
 use Rattle.mpe_zones.specs.Zones.{monoOf, roleIn, roleHeld, slotOf, isLowest}
 use Rattle.mpe_zones.specs.Update.{decodedRpn, decodedParameter, decodedEvent, decoded, zonesUpdate, announced, configuredBy, sensed, inMode4, modeEvent, isLowestIn, onMember, plainEvent, modeSet, updatedAs, messageUpdate}
 use Rattle.mpe_zones.specs.Claims.{InRole, roleFor, changeOf, rpnEvent, NoRpn, Announces, OtherwiseIgnored, SensitivityChanges, Sensitivities, InNoZone, BankController, ModeController, OnMemberIgnored, Modes, OnManager, Ordinary, OnMember, EventUnused, ReceiverCases}
+use Rattle.mpe_zones.proofs.Activation.{activates}
 use Rattle.mpe_zones.proofs.Kept.{rpn-zero-other, rpn-zero-same}
 
 held : (z : Zones) (k : ℕ) (ro : MpeRole) → InRole z k ro → roleHeld (z .layout) k ≡ ro
@@ -248,4 +249,5 @@ receiver-cases =
       case-6-manager = on-manager;
       case-6-member = on-member;
       event-use = event-unused;
+      activation = activates;
     }

@@ -1,4 +1,4 @@
--- What a message leaves of the zones: RPN 0 changes one sensitivity, a message on a member at most its zone's mode, and where an event reports no change there is none.
+-- What a message leaves of the zones: RPN 0 changes one sensitivity, and where an event reports no change there is none.
 -- Assumes nothing.
 use Prim.Native.Nat.{ℕ, _+_, _*_, _/_, _%_}
 use mathlib.Core.Path.{_≡_, refl, ap, sym, _∙_}
@@ -6,7 +6,6 @@ use mathlib.Core.Bool.{Bool, true, false, true≢false}
 use native.Mathlib.Omega.{arith}
 use lib.Dec.{ltb, eqb}
 use borrow.Author.Tests.{eqb-true, ne-eqb}
-use Rattle.ump.specs.Choice.{if_then_else_}
 use Rattle.ump.proofs.Cases.{by-test, of-both}
 use Rattle.parameter_event.specs.declared.ParameterChange.{ParameterChange}
 use Rattle.parameter_event.specs.declared.ParameterChange.the-variants.{DataEntryMsb, DataEntryLsb, Increment, Decrement}
@@ -15,7 +14,6 @@ use Rattle.parameters.specs.declared.MaybeEvent.{MaybeEvent}
 use Rattle.parameters.specs.declared.MaybeEvent.the-variants.{NoEvent}
 use Rattle.parameter_event.specs.Apply.{applied}
 use Rattle.mpe_layout.specs.declared.MpeZone.{MpeZone}
-use Rattle.mpe_layout.specs.declared.MpeZone.the-variants.{Lower, Upper}
 use Rattle.mpe_layout.specs.declared.MpeRole.{MpeRole}
 use Rattle.mpe_layout.specs.declared.MpeRole.the-variants as role
 use Rattle.mpe_zones.specs.declared.MpeEvent.{MpeEvent}
@@ -26,10 +24,10 @@ use Rattle.mpe_zones.specs.declared.Decoded.{Decoded}
 use Rattle.mpe_zones.specs.declared.Decoded.the-variants.{Nothing, Configuration, BendSensitivity}
 use Rattle.mpe_zones.specs.declared.ZonesUpdate.{ZonesUpdate}
 use Rattle.mpe_zones.specs.declared.Zones.{Zones}
-use Rattle.mpe_zones.specs.Zones.{withSensitivities, withMono, monoOf, slotOf, zoneSensitivity, roleHeld}
-use Rattle.mpe_zones.specs.Update.{zonesUpdate, announced, configuredBy, configuredAs, announcedOn, sensitivityApplied, sensed, inMode4, modeEvent, onMember, plainEvent, modeSet, decoded, updatedAs, messageUpdate, resetIn, changesBy}
+use Rattle.mpe_zones.specs.Zones.{withSensitivities, slotOf, zoneSensitivity, roleHeld}
+use Rattle.mpe_zones.specs.Update.{zonesUpdate, announced, configuredBy, configuredAs, announcedOn, sensitivityApplied, sensed, inMode4, onMember, plainEvent, modeSet, decoded, updatedAs, messageUpdate, resetIn, changesBy}
 use Rattle.mpe_zones.specs.WellFormed.{ZonesFormed}
-use Rattle.mpe_zones.specs.Claims.{roleFor, monoAfter}
+use Rattle.mpe_zones.specs.Claims.{roleFor}
 use Rattle.mpe_zones.proofs.Slots.{slot-fits, slot-even, put-same, put-other}
 
 -- the zones after RPN 0
@@ -60,35 +58,6 @@ pub rpn-zero-same : (z : Zones) (zone : MpeZone) (manager : Bool) (e : Parameter
 rpn-zero-same z zone manager e v w h =
     ap (λ x. zoneSensitivity x zone manager) (applied-to z zone manager e)
     ∙ rw h (put-same (z .sensitivity) (slotOf zone manager) _ _ (omega (arith, slot-fits zone manager, w .sensitivities)))
-
-pub mono-same : (z : Zones) (zone : MpeZone) → withMono z zone (monoOf z zone) ≡ z
-mono-same z Lower = refl
-mono-same z Upper = refl
-
--- a message on a member changes at most the zone's mode
-module _ (z : Zones) (zone : MpeZone) (mono lowest : Bool) where
-  by-mode : (a : ℕ) → modeSet z (inMode4 zone mono) a ≡ withMono z zone (monoOf z zone)
-  by-mode a = by-test mono (λ e. rw e (sym (mono-same z zone))) (λ e. rw e (sym (mono-same z zone)))
-
-  by-lowest : (a : ℕ) → modeSet z (modeEvent zone lowest) a ≡ withMono z zone (if lowest then eqb a 126 else monoOf z zone)
-  by-lowest a = by-test lowest (λ e. rw e) (λ e. rw e (sym (mono-same z zone)))
-
-  controlled : (a : ℕ) → modeSet z (onMember zone mono lowest 0xB a) a ≡ withMono z zone (monoAfter (monoOf z zone) lowest 0xB a)
-  unfolding onMember monoAfter
-  controlled a =
-      by-test (eqb a 0) (λ e. rw (eqb-true a 0 e) (by-mode 0))
-      (λ e. by-test (eqb a 32) (λ f. rw (eqb-true a 32 f) (by-mode 32))
-      (λ f. by-test (eqb a 126) (λ g. rw (eqb-true a 126 g) (by-lowest 126))
-      (λ g. by-test (eqb a 127) (λ h. rw (eqb-true a 127 h) (by-lowest 127))
-      (λ h. rw (e, f, g, h) (sym (mono-same z zone))))))
-
-  pub on-member-mode : (opcode a : ℕ) → modeSet z (onMember zone mono lowest opcode a) a ≡ withMono z zone (monoAfter (monoOf z zone) lowest opcode a)
-  unfolding onMember monoAfter
-  on-member-mode opcode a =
-      by-test (eqb opcode 0xB) (λ g. rw (eqb-true opcode 0xB g) (controlled a))
-      (λ g. by-test (eqb opcode 0xA) (λ e. rw (eqb-true opcode 0xA e) (sym (mono-same z zone)))
-      (λ e. by-test (eqb opcode 0xC) (λ f. rw (eqb-true opcode 0xC f) (by-mode a))
-      (λ f. rw (e, f, g) (sym (mono-same z zone)))))
 
 -- the events that report no change of the zones reset no channel
 pub none-reset : (e : MpeEvent) → changesBy e ≡ false → resetIn e ≡ 0

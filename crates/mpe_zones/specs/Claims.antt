@@ -4,7 +4,6 @@ use mathlib.Core.Path.{_≡_}
 use mathlib.Core.Bool.{Bool, true, false}
 use mathlib.Core.Logic.{_⊎_}
 use lib.Dec.{eqb}
-use Rattle.ump.specs.Choice.{if_then_else_}
 use Rattle.ump.specs.Controller.{rpnOf}
 use Rattle.parameter_event.specs.declared.Parameter.the-variants.{Registered}
 use Rattle.parameter_event.specs.declared.ParameterChange.{ParameterChange}
@@ -16,7 +15,7 @@ use Rattle.parameters.specs.declared.MaybeEvent.the-variants.{NoEvent, Event}
 use Rattle.mpe_layout.specs.declared.MpeZone.{MpeZone}
 use Rattle.mpe_layout.specs.declared.MpeRole.{MpeRole}
 use Rattle.mpe_layout.specs.declared.MpeRole.the-variants as role
-use Rattle.mpe_layout.specs.Layout.{legal, roleOf, managerOf, lowestOf, withMcm}
+use Rattle.mpe_layout.specs.Layout.{legal, otherZone, roleOf, managerOf, lowestOf, withMcm}
 use Rattle.mpe_layout.specs.Reset.{announcementMask}
 use Rattle.mpe_pitch.specs.declared.MpeSensitivity.{MpeSensitivity}
 use Rattle.mpe_zones.specs.declared.MpeEvent.the-variants.{NoZone, Zone, Layout, Sensitivity, Mode, Ignored}
@@ -136,7 +135,19 @@ abbrev pub EventUnused : Type 0
 EventUnused =
     (z : Zones) (e : MaybeEvent) (opcode channel a : ℕ) → (opcode ≡ 0xB → ⊥) → messageUpdate z e opcode channel a ≡ messageUpdate z NoEvent opcode channel a
 
--- the six cases, and the event's use
+-- "A zone announced or set with members gets sensitivities 2/0 and 48/0 and mode 3"; the other zone keeps its own
+pub record Activation (z : Zones) (zone : MpeZone) (after : Zones) : Type 0 where
+  pub its-manager : zoneSensitivity after zone true ≡ record { semitones = 2; cents = 0 }
+  pub its-members : zoneSensitivity after zone false ≡ record { semitones = 48; cents = 0 }
+  pub its-mode : monoOf after zone ≡ false
+  pub other-sensitivities : (manager : Bool) → zoneSensitivity after (otherZone zone) manager ≡ zoneSensitivity z (otherZone zone) manager
+  pub other-mode : monoOf after (otherZone zone) ≡ monoOf z (otherZone zone)
+  pub same-layout : after .layout ≡ z .layout
+
+abbrev pub Activates : Type 0
+Activates = (z : Zones) (zone : MpeZone) (members : ℕ) → ZonesFormed z → 0 < members → Activation z zone (activatedIf members z zone)
+
+-- the six cases, the event's use, and the values of a zone that is announced or set
 pub record ReceiverCases : Type 0 where
   pub case-1 : Announces
   pub case-1-else : OtherwiseIgnored
@@ -147,10 +158,4 @@ pub record ReceiverCases : Type 0 where
   pub case-6-manager : OnManager
   pub case-6-member : OnMember
   pub event-use : EventUnused
-
--- mode 4 after a message on a member: 126 and 127 change it on the lowest (M1-100 2.2.4.3)
-unfoldable pub monoAfter : Bool → Bool → ℕ → ℕ → Bool
-monoAfter mono lowest opcode a =
-    if eqb opcode 0xB then
-    (if eqb a 126 then (if lowest then true else mono) else if eqb a 127 then (if lowest then false else mono) else mono)
-    else mono
+  pub activation : Activates

@@ -1,7 +1,7 @@
 // The parameter receiver of one channel (parameters.rs).
 ghost use mathlib.Core.Path.{_≡_};
 ghost use Prim.Native.Nat.{_<_, _-_};
-ghost use Rattle.parameters.specs.State.{newState, selects, selectedRpn, selectedNrpn, selectionOf, nulled, rpnSwitched, nrpnSwitched, entered, numberStored, controlled, updateByFields, parameterReplyRead, parameterReply, parameterAfter};
+ghost use Rattle.parameters.specs.State.{newState, number, withRpn, withNrpn, selects, selectedRpn, selectedNrpn, selectionOf, nulled, rpnSwitched, nrpnSwitched, entered, numberStored, controlled, updateByFields, parameterReplyRead, parameterReply, parameterAfter};
 use parameter_event::Parameter;
 use parameter_event::ParameterChange;
 use parameter_event::ParameterEvent;
@@ -163,48 +163,45 @@ impl ParameterState {
         }
     }
 
+    // A registered number is stored.
+    fn with_rpn(self, msb: u8, lsb: u8) -> ParameterState
+        ensures { λ r. ⌜ r ≡ withRpn self (number msb lsb) ⌝ }
+    {
+        let n = Number { msb, lsb };
+        let mut s = self;
+        s.rpn = n;
+        s.nrpn_last = false;
+        s
+    }
+
+    // A non-registered number is stored.
+    fn with_nrpn(self, msb: u8, lsb: u8) -> ParameterState
+        ensures { λ r. ⌜ r ≡ withNrpn self (number msb lsb) ⌝ }
+    {
+        let n = Number { msb, lsb };
+        let mut s = self;
+        s.nrpn = n;
+        s.nrpn_last = true;
+        s
+    }
+
     // Controllers 98 to 101 store half a number, and 121 makes both numbers null.
     fn store(self, index: u8, value: u8) -> ParameterState
         ensures { λ r. ⌜ r ≡ numberStored self index value ⌝ }
     {
         let rpn = self.rpn;
         let nrpn = self.nrpn;
-        let mut s = self;
         if index == 101 {
-            let n = Number {
-                msb: value,
-                lsb: rpn.lsb,
-            };
-            s.rpn = n;
-            s.nrpn_last = false;
-            return s;
+            return self.with_rpn(value, rpn.lsb);
         }
         if index == 100 {
-            let n = Number {
-                msb: rpn.msb,
-                lsb: value,
-            };
-            s.rpn = n;
-            s.nrpn_last = false;
-            return s;
+            return self.with_rpn(rpn.msb, value);
         }
         if index == 99 {
-            let n = Number {
-                msb: value,
-                lsb: nrpn.lsb,
-            };
-            s.nrpn = n;
-            s.nrpn_last = true;
-            return s;
+            return self.with_nrpn(value, nrpn.lsb);
         }
         if index == 98 {
-            let n = Number {
-                msb: nrpn.msb,
-                lsb: value,
-            };
-            s.nrpn = n;
-            s.nrpn_last = true;
-            return s;
+            return self.with_nrpn(nrpn.msb, value);
         }
         if index == 121 {
             return self.reset_all_controllers();

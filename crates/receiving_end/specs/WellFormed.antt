@@ -13,6 +13,6 @@ pub record EndFormed (e : End) : Type 0 where
   pub channels : length (e .parameters) ≡ 16
   pub receiver-formed : ReceiverFormed (e .receiver)
 
--- whatever was called on a new end, its layout is legal and nothing is out of place
+-- whatever was called on a new end, its layout is legal, its reader sound, and its lists have their lengths
 abbrev pub AlwaysFormed : Type 0
 AlwaysFormed = (calls : List Call) → EndFormed (after newEnd calls)

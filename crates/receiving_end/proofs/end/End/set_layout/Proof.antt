@@ -13,7 +13,7 @@ set-layout-requires c κs = search needs
 returns : tie.Need-returns
 returns c =
     let reply = c .before .set-layout .ensures .0 in
-    let end = ap (λ x. withReceiver (c .before .before .before .args .self) x) (c .before .set-layout .ensures .1) in
+    let end = ap (λ x. withReceiver (c .before .before .before .args .self) x) (c .before .set-layout .ensures .1 .0) in
     ((reply, end), (ap masked reply, end))
 
 pub set-layout-spec : {M : Type 1} → statement M
