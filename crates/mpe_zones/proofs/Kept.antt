@@ -39,12 +39,7 @@ pub applied-to : (z : Zones) (zone : MpeZone) (manager : Bool) (e : ParameterEve
 applied-to z zone true e = refl
 applied-to z zone false e = refl
 
--- it changes the sensitivities alone
-pub rpn-zero-only : (z : Zones) (zone : MpeZone) (manager : Bool) (e : ParameterEvent)
-    → rpnZero z zone manager e ≡ withSensitivities z (rpnZero z zone manager e .sensitivity)
-rpn-zero-only z zone manager e = refl
-
--- of these the one that it names
+-- it changes the sensitivity that it names, and no other
 pub rpn-zero-other : (z : Zones) (zone : MpeZone) (manager : Bool) (e : ParameterEvent) (y : MpeZone) (m : Bool)
     → (slotOf y m ≡ slotOf zone manager → ⊥) → zoneSensitivity (rpnZero z zone manager e) y m ≡ zoneSensitivity z y m
 rpn-zero-other z zone manager e y m ne =
