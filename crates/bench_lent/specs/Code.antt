@@ -4,8 +4,8 @@ use mathlib.Core.Bool.{Bool}
 use Rattle.ump.specs.Choice.{if_then_else_}
 use Rattle.mpe_layout.specs.declared.MpeZone.{MpeZone}
 use Rattle.mpe_layout.specs.declared.MpeZone.the-variants.{Lower, Upper}
-use Rattle.mpe_zones.specs.declared.MpeEvent.{MpeEvent}
-use Rattle.mpe_zones.specs.declared.MpeEvent.the-variants.{NoZone, Zone, Layout, Sensitivity, Mode, Ignored}
+use Rattle.mpe_event.specs.declared.MpeEvent.{MpeEvent}
+use Rattle.mpe_event.specs.declared.MpeEvent.the-variants.{NoZone, Zone, Layout, Sensitivity, Mode, Ignored}
 use Rattle.receiving_end.specs.declared.end.Reply.{Reply}
 use Rattle.receiving_end.specs.declared.end.Reply.the-variants.{Quiet, Dropped, RealTime, Message}
 

@@ -4,8 +4,8 @@ ghost use Prim.Native.Nat.{_<_, _^_};
 ghost use Rattle.receiving_end.specs.End.{newEnd, stepReply, stepEnd};
 ghost use Rattle.bench_lent.specs.Code.{zoneCode, partCode, eventCode, replyCode};
 use lent_end::byte;
+use mpe_event::MpeEvent;
 use mpe_layout::MpeZone;
-use mpe_zones::MpeEvent;
 use receiving_end::end::End;
 use receiving_end::end::Reply;
 

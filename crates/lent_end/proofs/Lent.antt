@@ -23,10 +23,10 @@ use Rattle.mpe_layout.specs.declared.MpeZone.{MpeZone}
 use Rattle.mpe_layout.specs.declared.MpeRole.{MpeRole}
 use Rattle.mpe_layout.specs.declared.MpeRole.the-variants as role
 use Rattle.mpe_receiver.specs.declared.MpeReceiver.{MpeReceiver}
-use Rattle.mpe_zones.specs.declared.MpeEvent.the-variants.{Ignored}
+use Rattle.mpe_event.specs.declared.MpeEvent.the-variants.{Ignored}
 use Rattle.mpe_zones.specs.Zones.{roleHeld}
-use Rattle.mpe_zones.specs.Update.{onMember, plainEvent}
-use Rattle.mpe_zones.proofs.Kept.{NoMode, plain-update}
+use Rattle.mpe_event.specs.Update.{onMember, plainEvent}
+use Rattle.mpe_event.proofs.Kept.{NoMode, plain-update}
 use Rattle.mpe_receiver.specs.State.{withBends, withPressures, withBrightnesses, zonesOf}
 use Rattle.mpe_receiver.specs.Receive.{stored, receivedByFields}
 use Rattle.mpe_receiver.specs.Receive as receiver

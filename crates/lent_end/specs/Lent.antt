@@ -13,10 +13,10 @@ use Rattle.mpe_layout.specs.declared.MpeZone.{MpeZone}
 use Rattle.mpe_layout.specs.declared.MpeRole.{MpeRole}
 use Rattle.mpe_layout.specs.declared.MpeRole.the-variants as role
 use Rattle.mpe_receiver.specs.declared.MpeReceiver.{MpeReceiver}
-use Rattle.mpe_zones.specs.declared.MpeEvent.{MpeEvent}
-use Rattle.mpe_zones.specs.declared.MpeEvent.the-variants.{NoZone, Zone, Ignored}
+use Rattle.mpe_event.specs.declared.MpeEvent.{MpeEvent}
+use Rattle.mpe_event.specs.declared.MpeEvent.the-variants.{NoZone, Zone, Ignored}
 use Rattle.mpe_zones.specs.Zones.{monoOf, roleHeld}
-use Rattle.mpe_zones.specs.Update.{onMember}
+use Rattle.mpe_event.specs.Update.{onMember}
 use Rattle.mpe_receiver.specs.State.{withBends, withPressures, withBrightnesses, zonesOf}
 use Rattle.mpe_receiver.specs.Receive as receiver
 use Rattle.byte_reader.specs.declared.Reader.{Reader}

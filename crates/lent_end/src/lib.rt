@@ -1,7 +1,7 @@
 // The byte call on a lent end: the end is taken apart and altered where it stands.
 ghost use mathlib.Core.Path.{_≡_};
 ghost use Rattle.parameters.specs.State.{parameterReplyRead};
-ghost use Rattle.mpe_zones.specs.Update.{inMode4, mpeReplyRead};
+ghost use Rattle.mpe_event.specs.Update.{inMode4, mpeReplyRead};
 ghost use Rattle.receiving_end.specs.End.{eventIn, mpeIn, stepReply, stepEnd};
 ghost use Rattle.receiving_end.specs.Lists.{answer, next, byteLent, replied};
 ghost use Rattle.ump.specs.Word.{bendOf};
@@ -10,12 +10,12 @@ ghost use Rattle.lent_end.specs.Lent.{readerOnly, wordTaken, readTaken, 
 use byte_reader::Read;
 use byte_reader::ReadStep;
 use byte_reader::Reader;
+use mpe_event::MpeEvent;
+use mpe_event::MpeReply;
 use mpe_layout::FoundRole;
 use mpe_layout::MpeRole;
 use mpe_layout::MpeZone;
 use mpe_receiver::MpeReceiver;
-use mpe_zones::MpeEvent;
-use mpe_zones::MpeReply;
 use parameters::MaybeEvent;
 use parameters::ParameterState;
 use receiving_end::end::End;

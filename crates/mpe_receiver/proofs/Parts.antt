@@ -16,14 +16,14 @@ use Rattle.mpe_layout.specs.Layout.{legal}
 use Rattle.mpe_layout.specs.declared.ResetMask.{ResetMask}
 use Rattle.mpe_layout.specs.declared.ResetMask.the-variants.{Mask, OutOfRange}
 use Rattle.mpe_layout.specs.Reset.{named, maskFound}
-use Rattle.mpe_zones.specs.declared.MpeEvent.{MpeEvent}
-use Rattle.mpe_zones.specs.declared.MpeReply.{MpeReply}
-use Rattle.mpe_zones.specs.declared.MpeReply.the-variants as reply
-use Rattle.mpe_zones.specs.declared.ZonesUpdate.{ZonesUpdate}
+use Rattle.mpe_event.specs.declared.MpeEvent.{MpeEvent}
+use Rattle.mpe_event.specs.declared.MpeReply.{MpeReply}
+use Rattle.mpe_event.specs.declared.MpeReply.the-variants as reply
+use Rattle.mpe_event.specs.declared.ZonesUpdate.{ZonesUpdate}
 use Rattle.mpe_zones.specs.declared.Zones.{Zones}
 use Rattle.mpe_zones.specs.Zones.{roleHeld, zonesSet, zonesSetReply}
-use Rattle.mpe_zones.specs.Update.{messageUpdate, plainEvent, mpeReplyRead, zonesReply, zonesAfter, resetIn}
-use Rattle.mpe_zones.proofs.Kept.{NoMode, none-reset, zones-kept, quiet-event}
+use Rattle.mpe_event.specs.Update.{messageUpdate, plainEvent, mpeReplyRead, zonesReply, zonesAfter, resetIn}
+use Rattle.mpe_event.proofs.Kept.{NoMode, none-reset, zones-kept, quiet-event}
 use Rattle.mpe_receiver.specs.declared.MpeReceiver.{MpeReceiver}
 use Rattle.mpe_receiver.specs.State.{zonesOf, withZones}
 use Rattle.mpe_receiver.specs.Receive.{stored, putWhere, restUpto, withUpdate, receivedByFields, receiverReply, receiverAfter, settled, setReply, setState}

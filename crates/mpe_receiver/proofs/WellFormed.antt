@@ -14,7 +14,8 @@ use Rattle.mpe_layout.specs.Layout.{legal, legalCounts}
 use Rattle.mpe_layout.specs.Reset.{named}
 use Rattle.mpe_zones.specs.declared.Zones.{Zones}
 use Rattle.mpe_zones.specs.WellFormed as zones
-use Rattle.mpe_zones.proofs.WellFormed.{laid-out-formed, update-formed}
+use Rattle.mpe_zones.proofs.WellFormed.{laid-out-formed}
+use Rattle.mpe_event.proofs.WellFormed.{update-formed}
 use Rattle.mpe_receiver.specs.declared.MpeReceiver.{MpeReceiver}
 use Rattle.mpe_receiver.specs.State.{newReceiver, withBends, withPressures, withBrightnesses, zonesOf, withZones}
 use Rattle.mpe_receiver.specs.Receive.{stored, putWhere, restUpto, receivedByFields, receiverAfter, setState}

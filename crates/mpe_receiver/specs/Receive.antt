@@ -11,11 +11,11 @@ use Rattle.parameters.specs.declared.MaybeEvent.{MaybeEvent}
 use Rattle.mpe_layout.specs.declared.MpeLayout.{MpeLayout}
 use Rattle.mpe_layout.specs.Layout.{legal}
 use Rattle.mpe_layout.specs.Reset.{named}
-use Rattle.mpe_zones.specs.declared.MpeEvent.{MpeEvent}
-use Rattle.mpe_zones.specs.declared.ZonesUpdate.{ZonesUpdate}
+use Rattle.mpe_event.specs.declared.MpeEvent.{MpeEvent}
+use Rattle.mpe_event.specs.declared.ZonesUpdate.{ZonesUpdate}
 use Rattle.mpe_zones.specs.declared.Zones.{Zones}
 use Rattle.mpe_zones.specs.Zones.{withZonesOf, layoutResets, zonesSetReply}
-use Rattle.mpe_zones.specs.Update.{zonesUpdate, messageUpdate, resetIn}
+use Rattle.mpe_event.specs.Update.{zonesUpdate, messageUpdate, resetIn}
 use Rattle.mpe_receiver.specs.declared.MpeReceiver.{MpeReceiver}
 use Rattle.mpe_receiver.specs.declared.ReceiverUpdate.{ReceiverUpdate}
 use Rattle.mpe_receiver.specs.State.{withBends, withPressures, withBrightnesses, zonesOf, withZones}

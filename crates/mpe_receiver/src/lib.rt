@@ -5,12 +5,16 @@ ghost use lib.IntN.{ℤ};
 ghost use Rattle.ump.specs.Outcome.{given};
 ghost use Rattle.mpe_layout.specs.Reset.{maskFound};
 ghost use Rattle.mpe_pitch.specs.Claims.{Within};
-ghost use Rattle.mpe_zones.specs.Update.{mpeReplyRead, resetIn};
+ghost use Rattle.mpe_event.specs.Update.{mpeReplyRead, resetIn};
 ghost use Rattle.mpe_receiver.specs.State.{newReceiver, zonesOf, withZones};
 ghost use Rattle.mpe_receiver.specs.Receive.{stored, restUpto, receiverReply, receiverAfter, setReply, setState, settled};
 ghost use Rattle.mpe_receiver.specs.Read.{modeOf, sensitivityOf, bendAt, pressureAt, brightnessAt, managerOffset, memberOffset, offsetByRole, offsetOf, offsetRead};
 ghost use Rattle.mpe_receiver.specs.Claims.{MaskRests};
 ghost use Rattle.mpe_receiver.specs.Bench.{TableHolds};
+use mpe_event::MpeEvent;
+use mpe_event::MpeReply;
+use mpe_event::receive;
+use mpe_event::reset_in;
 use mpe_layout::MpeLayout;
 use mpe_layout::MpeRole;
 use mpe_layout::MpeZone;
@@ -18,10 +22,7 @@ use mpe_layout::ResetMask;
 use mpe_layout::names;
 use mpe_pitch::MpeSensitivity;
 use mpe_pitch::pitch_offset;
-use mpe_zones::MpeEvent;
-use mpe_zones::MpeReply;
 use mpe_zones::Zones;
-use mpe_zones::reset_in;
 use parameters::MaybeEvent;
 use ump::channel_voice1::channel;
 use ump::channel_voice1::first_data;
@@ -187,7 +188,7 @@ impl MpeReceiver {
         ensures reply { λ r. ⌜ mpeReplyRead (r .reply) ≡ receiverReply self word parameter ⌝ }
         ensures state { λ r. ⌜ r .receiver ≡ receiverAfter self word parameter ⌝ }
     {
-        let update = self.zones().receive(word, parameter);
+        let update = receive(self.zones(), word, parameter);
         let zones = update.zones;
         let reply = update.reply;
         match reply {

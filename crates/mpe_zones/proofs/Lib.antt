@@ -1,6 +1,5 @@
 -- Laws that proofs of this crate and of those above it cite.
 pub mod Slots
 pub mod Activation
-pub mod Kept
+pub mod Sensitivity
 pub mod WellFormed
-pub mod Cases

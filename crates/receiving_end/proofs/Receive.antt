@@ -9,7 +9,7 @@ use Rattle.parameters.specs.declared.MaybeEvent.the-variants.{NoEvent}
 use Rattle.parameters.specs.State.{numberStored, controlled, parameterUpdate}
 use Rattle.parameters.specs.State as parameter
 use Rattle.mpe_receiver.specs.Receive.{stored, receivedByFields}
-use Rattle.mpe_zones.proofs.Kept.{NoMode}
+use Rattle.mpe_event.proofs.Kept.{NoMode}
 use Rattle.mpe_receiver.proofs.Parts.{receiver-quiet}
 use Rattle.receiving_end.specs.declared.end.End.{End}
 use Rattle.receiving_end.specs.End.{withReceiver, withParameter, parameterAt}

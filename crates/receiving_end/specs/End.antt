@@ -12,8 +12,8 @@ use Rattle.parameters.specs.State.{newState, number, rpnSwitched, nrpnSwitched}
 use Rattle.parameters.specs.State as parameter
 use Rattle.mpe_layout.specs.declared.MpeLayout.{MpeLayout}
 use Rattle.mpe_receiver.specs.declared.MpeReceiver.{MpeReceiver}
-use Rattle.mpe_zones.specs.declared.MpeEvent.{MpeEvent}
-use Rattle.mpe_zones.specs.declared.MpeEvent.the-variants.{Ignored}
+use Rattle.mpe_event.specs.declared.MpeEvent.{MpeEvent}
+use Rattle.mpe_event.specs.declared.MpeEvent.the-variants.{Ignored}
 use Rattle.mpe_receiver.specs.State.{newReceiver}
 use Rattle.mpe_receiver.specs.Receive as receiver
 use Rattle.byte_reader.specs.declared.Reader.{Reader}

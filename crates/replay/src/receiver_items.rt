@@ -3,14 +3,14 @@ use crate::arguments;
 use crate::arguments::Item;
 use crate::line::Line;
 use crate::line::NUMBER;
+use mpe_event::MpeEvent;
+use mpe_event::MpeReply;
 use mpe_layout::MpeLayout;
 use mpe_layout::MpeZone;
 use mpe_layout::ResetMask;
 use mpe_pitch::MpeSensitivity;
 use mpe_receiver::MpeReceiver;
 use mpe_receiver::Offset;
-use mpe_zones::MpeEvent;
-use mpe_zones::MpeReply;
 use parameter_event::ParameterEvent;
 use parameters::MaybeEvent;
 

@@ -19,8 +19,8 @@ use Rattle.mpe_layout.specs.declared.MpeLayout.{MpeLayout}
 use Rattle.mpe_layout.specs.Layout.{layoutOf, legal, managerOf, leftBeside, withMcm}
 use Rattle.mpe_layout.proofs.Legal.{Bounds, sides, legal-bounds}
 use Rattle.mpe_zones.specs.declared.Zones.{Zones}
-use Rattle.mpe_zones.specs.Zones.{withLayout, activated, activatedIf, announcedTo}
-use Rattle.mpe_zones.specs.Update.{announced}
+use Rattle.mpe_zones.specs.Zones.{activated, withAnnounced, zonesAnnounced}
+use Rattle.mpe_event.specs.Update.{announced}
 use Rattle.mpe_receiver.specs.declared.MpeReceiver.{MpeReceiver}
 use Rattle.mpe_receiver.specs.State.{zonesOf}
 use Rattle.mpe_receiver.specs.Receive.{stored, withUpdate, receivedByFields}
@@ -42,20 +42,12 @@ unfolding receivedByFields stored rpnNumbered
 announces r Lower v = refl
 announces r Upper v = refl
 
--- what an announcement makes of the zones
-abbrev pub announcedZones : Zones → MpeZone → ℕ → Zones
-announcedZones z zone v = activatedIf v (withLayout z (withMcm (z .layout) zone v)) zone
-
-lawful-to : (l : MpeLayout) (zone : MpeZone) (v : ℕ) → legal l ≡ true → announcedTo l zone v ≡ withMcm l zone v
-lawful-to l zone v h = rw h
-
-announced-zones : (z : Zones) (zone : MpeZone) (v : ℕ) → legal (z .layout) ≡ true → v ≤ 15 → announced z zone v .zones ≡ announcedZones z zone v
-unfolding announced
-announced-zones z zone v h b =
-    rw (le-ltb 15 v b) (ap (λ l. activatedIf v (withLayout z l) zone) (lawful-to (z .layout) zone v h))
+announced-zones : (z : Zones) (zone : MpeZone) (v : ℕ) → legal (z .layout) ≡ true → v ≤ 15 → zonesAnnounced z zone v ≡ withAnnounced z zone v
+unfolding zonesAnnounced
+announced-zones z zone v h b = rw (le-ltb 15 v b, h)
 
 -- one announcement on the way
-pub announced-stage : {z : Zones} (e : End) (zone : MpeZone) (v : ℕ) → v ≤ 15 → Stage z e → Stage (announcedZones z zone v) (received-all e (announcement zone v))
+pub announced-stage : {z : Zones} (e : End) (zone : MpeZone) (v : ℕ) → v ≤ 15 → Stage z e → Stage (withAnnounced z zone v) (received-all e (announcement zone v))
 announced-stage e zone v b s =
     let k = managerOf zone in
     let hk = manager-lt zone in
@@ -67,7 +59,7 @@ announced-stage e zone v b s =
     ∙ entry-read e k 6 v hk (omega arith) (omega arith) (f .channels) (c .rpn-on) refl
     ∙ ap (λ h. withReceiver (withParameter (withReader e (readerAt (statusOf 0xB k) 0x80)) k (withRpn (parameterAt e k) (number 0 6))) (h .receiver)) (announces (e .receiver) zone v))
     (cleared-with (parameterAt e k) (number 0 6) c)
-    (announced-zones (zonesOf (e .receiver)) zone v (f .receiver-formed .lawful) b ∙ ap (λ y. announcedZones y zone v) (s .zones))
+    (announced-zones (zonesOf (e .receiver)) zone v (f .receiver-formed .lawful) b ∙ ap (λ y. withAnnounced y zone v) (s .zones))
 
 -- semitones of Lower's manager and members and of Upper's, all with no cents
 abbrev pub semitones : ℕ → ℕ → ℕ → ℕ → List ℕ
@@ -79,7 +71,7 @@ defaultZones l = zonesAt l false false (semitones 2 48 2 48)
 
 -- whatever they were
 both-active : (z : Zones) (l : List ℕ) → length l ≡ 8
-    → announcedZones (announcedZones (zonesAt (z .layout) (z .«lower_mono») (z .«upper_mono») l) Lower 7) Upper 7 ≡ defaultZones (layoutOf 7 7)
+    → withAnnounced (withAnnounced (zonesAt (z .layout) (z .«lower_mono») (z .«upper_mono») l) Lower 7) Upper 7 ≡ defaultZones (layoutOf 7 7)
 unfolding activated withMcm leftBeside
 both-active z [] h = absurd (omega arith)
 both-active z (a ∷ []) h = absurd (omega arith)
@@ -93,7 +85,7 @@ both-active z (a ∷ b ∷ c ∷ d ∷ e ∷ f ∷ g ∷ i ∷ []) h = refl
 both-active z (a ∷ b ∷ c ∷ d ∷ e ∷ f ∷ g ∷ i ∷ j ∷ l) h = absurd (omega arith)
 
 -- zones with their defaults keep them
-defaults-stay : (l : MpeLayout) (zone : MpeZone) (v : ℕ) → announcedZones (defaultZones l) zone v ≡ defaultZones (withMcm l zone v)
+defaults-stay : (l : MpeLayout) (zone : MpeZone) (v : ℕ) → withAnnounced (defaultZones l) zone v ≡ defaultZones (withMcm l zone v)
 unfolding activated
 defaults-stay l Lower v = by-test (ltb 0 v) (λ e. rw e) (λ e. rw e)
 defaults-stay l Upper v = by-test (ltb 0 v) (λ e. rw e) (λ e. rw e)
@@ -129,8 +121,8 @@ announcements-stage {z} e l h s =
     let s2 = announced-stage _ Upper 7 (omega arith) s1 in
     let s3 = announced-stage _ Lower (l .lower) (b .in-lower) s2 in
     let s4 = announced-stage _ Upper (l .upper) (b .in-upper) s3 in
-    let known : announcedZones (announcedZones z Lower 7) Upper 7 ≡ defaultZones (layoutOf 7 7) =
-    ap (λ y. announcedZones (announcedZones y Lower 7) Upper 7) (sym (s .zones))
+    let known : withAnnounced (withAnnounced z Lower 7) Upper 7 ≡ defaultZones (layoutOf 7 7) =
+    ap (λ y. withAnnounced (withAnnounced y Lower 7) Upper 7) (sym (s .zones))
     ∙ both-active (zonesOf (e .receiver)) (e .receiver .sensitivity) (s .formed .receiver-formed .sensitivities) in
     let endAfter : received-all e (announcements l) ≡ received-all (received-all (received-all (received-all e (announcement Lower 7)) (announcement Upper 7)) (announcement Lower (l .lower))) (announcement Upper (l .upper)) =
     received-append e (announcement Lower 7 ++ announcement Upper 7 ++ announcement Lower (l .lower)) (announcement Upper (l .upper))
@@ -139,8 +131,8 @@ announcements-stage {z} e l h s =
     ∙ ap (λ x. received-all x (announcement Lower (l .lower))) (received-append e (announcement Lower 7) (announcement Upper 7))) in
     subst (λ x. Stage (defaultZones l) x) (sym endAfter)
     (subst (λ y. Stage y (received-all (received-all (received-all (received-all e (announcement Lower 7)) (announcement Upper 7)) (announcement Lower (l .lower))) (announcement Upper (l .upper))))
-    (ap (λ y. announcedZones (announcedZones y Lower (l .lower)) Upper (l .upper)) known
-    ∙ ap (λ y. announcedZones y Upper (l .upper)) (defaults-stay (layoutOf 7 7) Lower (l .lower))
+    (ap (λ y. withAnnounced (withAnnounced y Lower (l .lower)) Upper (l .upper)) known
+    ∙ ap (λ y. withAnnounced y Upper (l .upper)) (defaults-stay (layoutOf 7 7) Lower (l .lower))
     ∙ defaults-stay (withMcm (layoutOf 7 7) Lower (l .lower)) Upper (l .upper)
     ∙ ap defaultZones (restated-layout l h))
     s4)

@@ -13,6 +13,7 @@ use borrow.Author.Tests.{ne-eqb, eq-eqb, eqb-false}
 use Rattle.ump.specs.Choice.{if_then_else_}
 use Rattle.ump.specs.Controller.{rpnNumbered}
 use Rattle.ump.proofs.Cases.{by-test}
+use Rattle.parameter_event.specs.declared.ParameterChange.the-variants.{DataEntryMsb}
 use Rattle.parameters.specs.declared.MaybeEvent.the-variants.{Event, NoEvent}
 use Rattle.parameters.specs.declared.ParameterState.{ParameterState}
 use Rattle.parameters.specs.State.{number, withRpn, numberStored, controlled, parameterUpdate}
@@ -23,11 +24,10 @@ use Rattle.mpe_layout.specs.Layout.{legal, ofLegal, membersOf, managerOf, lowes
 use Rattle.mpe_layout.proofs.Legal.{members-le}
 use Rattle.mpe_layout.proofs.Roles.{manager-role, member-role, lowest-role}
 use Rattle.mpe_zones.specs.declared.Zones.{Zones}
-use Rattle.mpe_zones.specs.Zones.{withSensitivities, withMono, slotOf, sensitivityPut, roleHeld, isLowest}
-use Rattle.mpe_zones.specs.Update.{sensitivityApplied, onMember, plainEvent, modeEvent, modeSet}
-use Rattle.mpe_zones.specs.Update as zones
-use Rattle.mpe_zones.specs.Claims.{roleFor}
-use Rattle.mpe_zones.proofs.Kept.{applied-to, rpnZero}
+use Rattle.mpe_zones.specs.Zones.{withSensitivities, withMono, slotOf, sensitivityPut, sensitivityApplied, roleHeld}
+use Rattle.mpe_event.specs.Update.{sensitivityUpdate, isLowest, onMember, plainEvent, modeEvent, modeSet}
+use Rattle.mpe_event.specs.Claims.{roleFor}
+use Rattle.mpe_event.proofs.Kept.{changed-by}
 use Rattle.mpe_receiver.specs.declared.MpeReceiver.{MpeReceiver}
 use Rattle.mpe_receiver.specs.State.{zonesOf}
 use Rattle.mpe_receiver.specs.Receive.{stored, receivedByFields}
@@ -53,25 +53,21 @@ held : (l : MpeLayout) (k : ℕ) → legal l ≡ true → k < 16 → roleHeld l 
 held l k h hk = let m : k % 16 ≡ k = omega arith in rw (h, m)
 
 -- RPN 0 with a data entry
-entry-put : (l : List ℕ) (k v : ℕ) → v < 128 → sensitivityApplied l k (entryOf 0 v) ≡ sensitivityPut l k v 0
+entry-put : (l : List ℕ) (k v : ℕ) → v < 128 → sensitivityApplied l k (DataEntryMsb v) ≡ sensitivityPut l k v 0
 unfolding rpnNumbered
 entry-put l k v h =
     let s : v % 128 * 128 / 128 ≡ v = omega arith in
     let c : v % 128 * 128 % 128 ≡ 0 = omega arith in
     rw (s, c)
 
-put-entry : (z : Zones) (v : ℕ) (zone : MpeZone) (manager : Bool) → v < 128
-    → rpnZero z zone manager (entryOf 0 v) ≡ withSensitivities z (sensitivityPut (z .sensitivity) (slotOf zone manager) v 0)
-put-entry z v zone manager h =
-    applied-to z zone manager (entryOf 0 v) ∙ ap (withSensitivities z) (entry-put (z .sensitivity) (slotOf zone manager) v h)
-
 entry-acts : (r : MpeReceiver) (k v : ℕ) (zone : MpeZone) (manager : Bool) → legal (r .layout) ≡ true → k < 16 → v < 128
     → roleOf (r .layout) k ≡ roleFor zone manager
     → zonesOf (receivedByFields r (Event (entryOf 0 v)) 0xB k 6 v .receiver) ≡ withSensitivities (zonesOf r) (sensitivityPut (r .sensitivity) (slotOf zone manager) v 0)
 unfolding receivedByFields stored rpnNumbered
 entry-acts r k v zone manager h hk hv role =
-    ap (λ ro. zones.sensed (zonesOf r) ro (entryOf 0 v) .zones) (held (r .layout) k h hk ∙ role)
-    ∙ put-entry (zonesOf r) v zone manager hv
+    ap (λ ro. sensitivityUpdate (zonesOf r) ro (DataEntryMsb v) .zones) (held (r .layout) k h hk ∙ role)
+    ∙ ap (λ u. u .zones) (changed-by (zonesOf r) zone manager (DataEntryMsb v))
+    ∙ ap (withSensitivities (zonesOf r)) (entry-put (r .sensitivity) (slotOf zone manager) v hv)
 
 -- the zones with other sensitivities of a zone's manager or members
 abbrev pub sensed : Zones → MpeZone → Bool → ℕ → Zones

@@ -9,7 +9,7 @@ use Rattle.ump.specs.Choice.{if_then_else_}
 use Rattle.ump.specs.Word.{opcodeOf, firstOf}
 use Rattle.mpe_layout.specs.declared.MpeZone.{MpeZone}
 use Rattle.mpe_layout.specs.declared.MpeRole.the-variants.{Member}
-use Rattle.mpe_zones.specs.declared.MpeEvent.{MpeEvent}
+use Rattle.mpe_event.specs.declared.MpeEvent.{MpeEvent}
 use Rattle.mpe_zones.specs.Zones.{monoOf}
 use Rattle.mpe_receiver.specs.declared.MpeReceiver.{MpeReceiver}
 use Rattle.mpe_receiver.specs.State.{zonesOf}

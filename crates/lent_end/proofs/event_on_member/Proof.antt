@@ -6,8 +6,8 @@ use mathlib.Core.Bool.{true, false}
 use lib.Dec.{eqb}
 use Rattle.ump.specs.Choice.{if_then_else_}
 use Rattle.ump.proofs.Cases.{of-both}
-use Rattle.mpe_zones.specs.declared.MpeEvent.the-variants.{Zone}
-use Rattle.mpe_zones.specs.Update.{modeEvent, onMember}
+use Rattle.mpe_event.specs.declared.MpeEvent.the-variants.{Zone}
+use Rattle.mpe_event.specs.Update.{modeEvent, onMember}
 use Rattle.ump.proofs.Auto.{auto}
 use Rattle.lent_end.proofs.event_on_member.Statement.{statement}
 use Rattle.lent_end.proofs.event_on_member.Tie as tie

@@ -9,7 +9,7 @@ use Rattle.ump.specs.Word.{channelOf}
 use Rattle.mpe_layout.specs.declared.MpeLayout.{MpeLayout}
 use Rattle.mpe_layout.specs.declared.MpeRole.{MpeRole}
 use Rattle.mpe_layout.specs.Layout.{ofLegal, roleOf}
-use Rattle.mpe_zones.specs.declared.MpeEvent.{MpeEvent}
+use Rattle.mpe_event.specs.declared.MpeEvent.{MpeEvent}
 use Rattle.mpe_zones.specs.Zones.{roleIn, roleHeld}
 use Rattle.mpe_receiver.specs.declared.MpeReceiver.{MpeReceiver}
 use Rattle.receiving_end.specs.declared.end.Reply.the-variants.{Message}

@@ -5,7 +5,7 @@ use Prim.Native.Nat.{ℕ}
 use mathlib.Core.Path.{_≡_}
 use Rattle.ump.specs.Outcome.{Outcome}
 use Rattle.parameters.specs.declared.MaybeEvent.{MaybeEvent}
-use Rattle.mpe_zones.specs.declared.MpeEvent.{MpeEvent}
+use Rattle.mpe_event.specs.declared.MpeEvent.{MpeEvent}
 use Rattle.mpe_receiver.specs.declared.MpeReceiver.{MpeReceiver}
 use Rattle.mpe_receiver.specs.Receive.{receiverReply, receiverAfter}
 use Rattle.receiving_end.specs.declared.end.Reply.{Reply}

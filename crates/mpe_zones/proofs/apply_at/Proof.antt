@@ -4,7 +4,7 @@ use Prim.Native.Nat.{_/_, _%_}
 use mathlib.Core.Path.{ap, _∙_}
 use borrow.Author.Needs.{needs}
 use Rattle.parameter_event.specs.Apply.{applied}
-use Rattle.mpe_zones.specs.Zones.{sensitivityPut}
+use Rattle.mpe_zones.specs.Zones.{sensitivityPut, sensitivityEvent}
 use Rattle.mpe_zones.proofs.apply_at.Statement.{statement}
 use Rattle.mpe_zones.proofs.apply_at.Tie as tie
 use native.Mathlib.Omega.{arith}
@@ -26,7 +26,7 @@ apply-requires : tie.Need-apply-requires
 apply-requires c κs = search needs
 
 cast-put-sensitivity : tie.Need-cast-put-sensitivity
-cast-put-sensitivity c = let l = applied-fits (c .before .before .args .event) (c .before .value-of .result) in omega (arith, c .apply .ensures)
+cast-put-sensitivity c = let l = applied-fits (sensitivityEvent (c .before .before .args .change)) (c .before .value-of .result) in omega (arith, c .apply .ensures)
 
 cast-put-sensitivity-2 : tie.Need-cast-put-sensitivity-2
 cast-put-sensitivity-2 c = search needs
@@ -38,7 +38,7 @@ returns : tie.Need-returns
 returns c =
     let a = c .before .before .before .args in
     c .put-sensitivity .ensures
-    ∙ ap (λ v. sensitivityPut (a .t1) (a .k) (v / 128) (v % 128)) (c .before .apply .ensures ∙ ap (applied (a .event)) (c .before .before .value-of .ensures))
+    ∙ ap (λ v. sensitivityPut (a .t1) (a .k) (v / 128) (v % 128)) (c .before .apply .ensures ∙ ap (applied (sensitivityEvent (a .change))) (c .before .before .value-of .ensures))
 
 pub apply-at-spec : {M : Type 1} → statement M
 apply-at-spec =

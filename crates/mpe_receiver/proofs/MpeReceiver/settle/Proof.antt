@@ -2,7 +2,7 @@
 -- Assumes nothing.
 use borrow.Author.Needs.{needs}
 use mathlib.Core.Path.{ap, _∙_}
-use Rattle.mpe_zones.specs.Update.{resetIn}
+use Rattle.mpe_event.specs.Update.{resetIn}
 use Rattle.mpe_receiver.specs.State.{withZones}
 use Rattle.mpe_receiver.specs.Receive.{stored, restUpto}
 use Rattle.mpe_receiver.proofs.MpeReceiver.settle.Statement.{statement}

@@ -30,10 +30,13 @@ returns c =
       c .lay-out .ensures ∙ sym (chosen _ (a .self) t),
     )
 
+declined-requires : tie.Need-declined-requires
+declined-requires c κs = search needs
+
 returns-2 : tie.Need-returns-2
 returns-2 c =
-    let t = sym (c .before .is-layout .ensures) ∙ c .if1 .left in
-    (rw t, rw t)
+    let t = sym (c .before .before .is-layout .ensures) ∙ c .before .if1 .left in
+    (rw t (c .declined .ensures .0), rw t (c .declined .ensures .1))
 
 pub set-layout-spec : {M : Type 1} → statement M
 set-layout-spec =
@@ -44,4 +47,5 @@ set-layout-spec =
     mask-or-zero-requires
     lay-out-requires
     returns
+    declined-requires
     returns-2)
