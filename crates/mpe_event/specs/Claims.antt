@@ -16,7 +16,7 @@ use Rattle.mpe_layout.specs.declared.MpeZone.{MpeZone}
 use Rattle.mpe_layout.specs.declared.MpeRole.{MpeRole}
 use Rattle.mpe_layout.specs.declared.MpeRole.the-variants as role
 use Rattle.mpe_layout.specs.Layout.{legal, roleOf, managerOf, lowestOf, withMcm}
-use Rattle.mpe_layout.specs.Reset.{announcementMask}
+use Rattle.mpe_reset.specs.Reset.{announcementMask}
 use Rattle.mpe_pitch.specs.declared.MpeSensitivity.{MpeSensitivity}
 use Rattle.mpe_event.specs.declared.MpeEvent.the-variants.{NoZone, Zone, Layout, Sensitivity, Mode, Ignored}
 use Rattle.mpe_event.specs.declared.ZonesUpdate.{ZonesUpdate}

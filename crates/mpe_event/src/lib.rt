@@ -1,14 +1,14 @@
 // What a message does to the zones of an MPE receiver, and its event (mpe.rs).
 ghost use mathlib.Core.Path.{_≡_};
 ghost use Rattle.mpe_layout.specs.Layout.{lowestFound};
-ghost use Rattle.mpe_layout.specs.Reset.{maskFound};
+ghost use Rattle.mpe_reset.specs.Reset.{maskFound};
 ghost use Rattle.mpe_zones.specs.Zones.{monoOf};
 ghost use Rattle.mpe_event.specs.Update.{decodedRpn, decodedParameter, decodedEvent, decoded, zonesUpdate, announcementEvent, announced, configuredBy, configured, announcedOn, sensitivityUpdate, inMode4, modeEvent, otherOnMember, isLowest, isLowestIn, onMember, plainEvent, modeSet, updatedAs, messageUpdate, mpeReplyRead, zonesReply, zonesAfter, resetIn};
 ghost use Rattle.mpe_event.specs.Claims.{ReceiverCases};
 use mpe_layout::LowestMember;
 use mpe_layout::MpeRole;
 use mpe_layout::MpeZone;
-use mpe_layout::ResetMask;
+use mpe_reset::ResetMask;
 use mpe_zones::Zones;
 use parameter_event::Parameter;
 use parameter_event::ParameterChange;

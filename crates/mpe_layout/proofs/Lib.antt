@@ -2,6 +2,4 @@
 pub mod Legal
 pub mod Roles
 pub mod Mcm
-pub mod Named
-pub mod Masks
 pub mod Occupied

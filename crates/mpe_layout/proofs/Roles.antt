@@ -6,13 +6,14 @@ use mathlib.Core.Logic.{_⊎_, inl, inr, ⊎-elim}
 use Prim.Native.Nat.{ℕ, _+_, _-_, _<_, _≤_}
 use native.Mathlib.Nat.{add-zero}
 use native.Mathlib.Omega.{arith}
-use lib.Dec.{eqb}
+use lib.Dec.{leb, eqb}
 use borrow.Author.Tests.{le-leb, lt-leb, eq-eqb, ne-eqb}
 use Rattle.ump.specs.Choice.{if_then_else_}
-use Rattle.mpe_layout.specs.Layout.{legal, membersOf, managerOf, lowestOf, placeOf, roleOf}
+use Rattle.mpe_layout.specs.Layout.{legal, membersOf, managerOf, lowestOf, placeOf, inside, roleOf}
 use Rattle.mpe_layout.specs.declared.MpeZone.{MpeZone}
 use Rattle.mpe_layout.specs.declared.MpeZone.the-variants.{Lower, Upper}
 use Rattle.mpe_layout.specs.declared.MpeRole.the-variants.{NoZone, Manager, Member}
+use Rattle.mpe_layout.specs.declared.ZonePlace.{ZonePlace}
 use Rattle.mpe_layout.specs.declared.ZonePlace.the-variants.{Outside, AsManager, AsMember}
 use Rattle.mpe_layout.specs.declared.MpeLayout.{MpeLayout}
 use Rattle.mpe_layout.proofs.Legal.{sides, members-le, both-le}
@@ -40,6 +41,24 @@ place-outside members distance h =
 pub place-empty : (members distance : ℕ) → members ≡ 0 → placeOf members distance ≡ Outside
 unfolding placeOf
 place-empty members distance e = rw (eq-eqb members 0 e)
+
+-- the place by whether the channel is in the zone and whether it is the zone's manager channel
+abbrev pub placed : Bool → Bool → ZonePlace
+placed false own = Outside
+placed true true = AsManager
+placed true false = AsMember
+
+pub place-is : (members distance : ℕ) → placeOf members distance ≡ placed (inside (placeOf members distance)) (eqb distance 0)
+unfolding placeOf
+place-is members distance = by (eqb members 0) (eqb distance 0) (leb distance members)
+  where
+    by : (a b c : Bool)
+        → (if a then Outside else if b then AsManager else if c then AsMember else Outside)
+        ≡ placed (inside (if a then Outside else if b then AsManager else if c then AsMember else Outside)) b
+    by true b c = refl
+    by false true c = refl
+    by false false true = refl
+    by false false false = refl
 
 -- no channel is in two zones (M1-100 2.2.1)
 pub one-zone : (l : MpeLayout) (channel : ℕ) → legal l ≡ true → channel < 16

@@ -70,6 +70,12 @@ unfoldable pub placeOf : ℕ → ℕ → ZonePlace
 placeOf members distance =
     if eqb members 0 then Outside else if eqb distance 0 then AsManager else if leb distance members then AsMember else Outside
 
+-- a place in the zone, as its manager or a member
+abbrev pub inside : ZonePlace → Bool
+inside Outside = false
+inside AsManager = true
+inside AsMember = true
+
 -- the role by the places in Lower and in Upper; in a legal layout one of the two is outside
 abbrev pub roleAt : ZonePlace → ZonePlace → MpeRole
 roleAt AsManager upper = Manager Lower

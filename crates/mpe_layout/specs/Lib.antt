@@ -1,3 +1,2 @@
--- Definitions that the contracts cite: layouts, roles, and the channels that a change of layout resets.
+-- Definitions that the contracts cite: zones, roles and layouts.
 pub mod Layout
-pub mod Reset

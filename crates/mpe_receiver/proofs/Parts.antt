@@ -13,9 +13,9 @@ use Rattle.parameters.specs.declared.MaybeEvent.{MaybeEvent}
 use Rattle.parameters.specs.declared.MaybeEvent.the-variants.{NoEvent}
 use Rattle.mpe_layout.specs.declared.MpeLayout.{MpeLayout}
 use Rattle.mpe_layout.specs.Layout.{legal}
-use Rattle.mpe_layout.specs.declared.ResetMask.{ResetMask}
-use Rattle.mpe_layout.specs.declared.ResetMask.the-variants.{Mask, OutOfRange}
-use Rattle.mpe_layout.specs.Reset.{named, maskFound}
+use Rattle.mpe_reset.specs.declared.ResetMask.{ResetMask}
+use Rattle.mpe_reset.specs.declared.ResetMask.the-variants.{Mask, OutOfRange}
+use Rattle.mpe_reset.specs.Reset.{named, maskFound}
 use Rattle.mpe_event.specs.declared.MpeEvent.{MpeEvent}
 use Rattle.mpe_event.specs.declared.MpeReply.{MpeReply}
 use Rattle.mpe_event.specs.declared.MpeReply.the-variants as reply

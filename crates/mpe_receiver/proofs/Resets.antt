@@ -13,7 +13,7 @@ use lib.Dec.{lit<}
 use Rattle.ump.specs.Choice.{if_then_else_}
 use Rattle.ump.specs.Packet.{packetValue}
 use Rattle.ump.proofs.Cases.{by-test, of-both}
-use Rattle.mpe_layout.specs.Reset.{named}
+use Rattle.mpe_reset.specs.Reset.{named}
 use Rattle.mpe_receiver.specs.declared.MpeReceiver.{MpeReceiver}
 use Rattle.mpe_receiver.specs.Receive.{putWhere, restUpto}
 use Rattle.mpe_receiver.specs.Read.{bendAt, pressureAt, brightnessAt}

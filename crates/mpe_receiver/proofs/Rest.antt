@@ -6,7 +6,7 @@ use native.Mathlib.Numerals.{add-one}
 use lib.ListN.{set}
 use Rattle.ump.specs.Choice.{if_then_else_}
 use Rattle.ump.proofs.Cases.{by-test}
-use Rattle.mpe_layout.specs.Reset.{named}
+use Rattle.mpe_reset.specs.Reset.{named}
 use Rattle.mpe_receiver.specs.declared.MpeReceiver.{MpeReceiver}
 use Rattle.mpe_receiver.specs.State.{withBends, withPressures, withBrightnesses}
 use Rattle.mpe_receiver.specs.Receive.{putWhere, restUpto}

@@ -11,7 +11,7 @@ use Rattle.ump.proofs.Cases.{by-test, of-both}
 use Rattle.parameters.specs.declared.MaybeEvent.{MaybeEvent}
 use Rattle.mpe_layout.specs.declared.MpeLayout.{MpeLayout}
 use Rattle.mpe_layout.specs.Layout.{legal, legalCounts}
-use Rattle.mpe_layout.specs.Reset.{named}
+use Rattle.mpe_reset.specs.Reset.{named}
 use Rattle.mpe_zones.specs.declared.Zones.{Zones}
 use Rattle.mpe_zones.specs.WellFormed as zones
 use Rattle.mpe_zones.proofs.WellFormed.{laid-out-formed}

@@ -2,7 +2,7 @@
 use Prim.Native.Nat.{ℕ}
 use mathlib.Core.Path.{_≡_}
 use Rattle.ump.specs.Choice.{if_then_else_}
-use Rattle.mpe_layout.specs.Reset.{named}
+use Rattle.mpe_reset.specs.Reset.{named}
 use Rattle.mpe_receiver.specs.declared.MpeReceiver.{MpeReceiver}
 use Rattle.mpe_receiver.specs.Receive.{restUpto}
 use Rattle.mpe_receiver.specs.Read.{bendAt, pressureAt, brightnessAt}

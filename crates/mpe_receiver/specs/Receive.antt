@@ -10,7 +10,7 @@ use Rattle.ump.specs.Word.{opcodeOf, channelOf, firstOf, secondOf, wordForm}
 use Rattle.parameters.specs.declared.MaybeEvent.{MaybeEvent}
 use Rattle.mpe_layout.specs.declared.MpeLayout.{MpeLayout}
 use Rattle.mpe_layout.specs.Layout.{legal}
-use Rattle.mpe_layout.specs.Reset.{named}
+use Rattle.mpe_reset.specs.Reset.{named}
 use Rattle.mpe_event.specs.declared.MpeEvent.{MpeEvent}
 use Rattle.mpe_event.specs.declared.ZonesUpdate.{ZonesUpdate}
 use Rattle.mpe_zones.specs.declared.Zones.{Zones}

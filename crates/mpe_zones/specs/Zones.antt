@@ -17,7 +17,7 @@ use Rattle.mpe_layout.specs.declared.MpeRole.{MpeRole}
 use Rattle.mpe_layout.specs.declared.MpeRole.the-variants.{NoZone}
 use Rattle.mpe_layout.specs.declared.MpeLayout.{MpeLayout}
 use Rattle.mpe_layout.specs.Layout.{legal, ofLegal, roleGiven, withMcm}
-use Rattle.mpe_layout.specs.Reset.{announcementMask, layoutMask, maskOrZero}
+use Rattle.mpe_reset.specs.Reset.{announcementMask, layoutMask, maskOrZero}
 use Rattle.mpe_pitch.specs.declared.MpeSensitivity.{MpeSensitivity}
 use Rattle.mpe_pitch.specs.Pitch.{managerDefault, memberDefault}
 use Rattle.mpe_zones.specs.declared.Zones.{Zones}

@@ -7,10 +7,10 @@ use mpe_event::MpeEvent;
 use mpe_event::MpeReply;
 use mpe_layout::MpeLayout;
 use mpe_layout::MpeZone;
-use mpe_layout::ResetMask;
 use mpe_pitch::MpeSensitivity;
 use mpe_receiver::MpeReceiver;
 use mpe_receiver::Offset;
+use mpe_reset::ResetMask;
 use parameter_event::ParameterEvent;
 use parameters::MaybeEvent;
 

@@ -6,7 +6,7 @@ use Prim.Native.Nat.{_≤_, _-_}
 use mathlib.Core.Path.{_≡_, refl, ap, _∙_}
 use mathlib.Core.Bool.{true, false}
 use mathlib.Core.Logic.{⊎-elim}
-use Rattle.mpe_layout.specs.Reset.{named}
+use Rattle.mpe_reset.specs.Reset.{named}
 use Rattle.mpe_receiver.specs.Receive.{putWhere, restUpto}
 use Rattle.mpe_receiver.proofs.Rest.{rest-next}
 use Rattle.mpe_receiver.proofs.MpeReceiver.rest.Statement.{statement}

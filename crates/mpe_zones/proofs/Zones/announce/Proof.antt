@@ -10,7 +10,7 @@ use Rattle.ump.proofs.Cases.{by-test, chosen, passed}
 use Rattle.mpe_layout.specs.declared.MpeZone.{MpeZone}
 use Rattle.mpe_layout.specs.declared.MpeLayout.{MpeLayout}
 use Rattle.mpe_layout.specs.Layout.{legal, ofLegal, layoutMade, mcmLayout, withMcm}
-use Rattle.mpe_layout.specs.Reset.{announcementMask}
+use Rattle.mpe_reset.specs.Reset.{announcementMask}
 use Rattle.mpe_layout.proofs.Mcm.{mcm-legal}
 use Rattle.mpe_zones.specs.Zones.{withLayout, activatedIf, zonesAnnounced, announcedReply}
 use Rattle.mpe_zones.proofs.Activation.{activates}

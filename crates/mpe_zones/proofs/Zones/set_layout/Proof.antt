@@ -4,7 +4,7 @@ use borrow.Author.Needs.{needs}
 use mathlib.Core.Path.{ap, sym, _∙_}
 use Rattle.ump.specs.Outcome.{given, outOfRange}
 use Rattle.ump.proofs.Cases.{chosen}
-use Rattle.mpe_layout.specs.Reset.{maskOrZero}
+use Rattle.mpe_reset.specs.Reset.{maskOrZero}
 use Rattle.mpe_zones.proofs.Zones.set_layout.Statement.{statement}
 use Rattle.mpe_zones.proofs.Zones.set_layout.Tie as tie
 

@@ -1,10 +1,10 @@
--- `mpe_layout::lower_mask` meets its contract: no member, or the law of the mask of Lower.
+-- `mpe_reset::lower_mask` meets its contract: no member, or the law of the mask of Lower.
 -- Assumes nothing.
 use borrow.Author.Needs.{needs}
 use Rattle.ump.proofs.Auto.{auto}
-use Rattle.mpe_layout.proofs.Masks.{lower-is}
-use Rattle.mpe_layout.proofs.lower_mask.Statement.{statement}
-use Rattle.mpe_layout.proofs.lower_mask.Tie as tie
+use Rattle.mpe_reset.proofs.Masks.{lower-is}
+use Rattle.mpe_reset.proofs.lower_mask.Statement.{statement}
+use Rattle.mpe_reset.proofs.lower_mask.Tie as tie
 
 returns : tie.Need-returns
 returns c = search (auto, ← lower-is (c .before .args .members) (c .before .pre))

@@ -1,14 +1,14 @@
--- `mpe_layout::names` meets its contract: the law of a field, at the channel's bit, one bit wide, and that of a mask.
+-- `mpe_reset::names` meets its contract: the law of a field, at the channel's bit, one bit wide, and that of a mask.
 -- Assumes nothing.
 use mathlib.Core.Path.{ap, _∙_}
 use Prim.Native.Nat.{_%_}
 use lib.Dec.{eqb}
 use borrow.Author.Needs.{needs}
 use Rattle.ump.proofs.Cut.{cut}
-use Rattle.mpe_layout.specs.Reset.{hitBy, named}
-use Rattle.mpe_layout.proofs.Named.{mask-named}
-use Rattle.mpe_layout.proofs.names.Statement.{statement}
-use Rattle.mpe_layout.proofs.names.Tie as tie
+use Rattle.mpe_reset.specs.Reset.{hitBy, named}
+use Rattle.mpe_reset.proofs.Named.{mask-named}
+use Rattle.mpe_reset.proofs.names.Statement.{statement}
+use Rattle.mpe_reset.proofs.names.Tie as tie
 
 cast-result : tie.Need-cast-result
 cast-result c = search needs

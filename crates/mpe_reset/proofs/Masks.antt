@@ -6,22 +6,20 @@ use mathlib.Core.Logic.{⊎-elim}
 use Prim.Native.Nat.{ℕ, zero, suc, _+_, _*_, _-_, _/_, _%_, _^_, _<_}
 use native.Mathlib.Nat.{eq-or-lt-of-le, le-of-suc-le-suc, not-suc-le-zero, lt-suc-self}
 use native.Mathlib.Omega.{arith}
-use lib.Dec.{leb, eqb}
+use lib.Dec.{eqb}
 use lib.Bits.{bitOr, bitXor, or-block, xor-block}
 use borrow.Author.Tests.{eqb-true}
 use Rattle.ump.specs.Choice.{if_then_else_}
 use Rattle.ump.specs.Field.{bitFor, maskTo}
 use Rattle.ump.proofs.Mask.{mask-lt}
-use Rattle.mpe_layout.specs.Layout.{legal, placeOf, roleAt, roleOf}
-use Rattle.mpe_layout.specs.Reset.{announcementRoles, announcementHit, layoutRoles, layoutHit, hitBy, inside, inLower, inUpper}
+use Rattle.mpe_layout.specs.Layout.{legal, placeOf, inside, roleAt, roleOf}
 use Rattle.mpe_layout.specs.declared.MpeZone.the-variants.{Lower, Upper}
 use Rattle.mpe_layout.specs.declared.MpeRole.{MpeRole}
-use Rattle.mpe_layout.specs.declared.ZonePlace.{ZonePlace}
-use Rattle.mpe_layout.specs.declared.ZonePlace.the-variants.{Outside, AsManager, AsMember}
 use Rattle.mpe_layout.specs.declared.MpeLayout.{MpeLayout}
-use Rattle.mpe_layout.specs.declared.Change.{Change}
-use Rattle.mpe_layout.specs.declared.Change.the-variants.{Announced, Set}
-use Rattle.mpe_layout.proofs.Roles.{one-zone}
+use Rattle.mpe_layout.proofs.Roles.{placed, place-is, one-zone}
+use Rattle.mpe_reset.specs.Reset.{announcementRoles, announcementHit, layoutRoles, layoutHit, hitBy, inLower, inUpper}
+use Rattle.mpe_reset.specs.declared.Change.{Change}
+use Rattle.mpe_reset.specs.declared.Change.the-variants.{Announced, Set}
 
 -- a mask depends on the test below its width alone
 mask-ext : (f g : ℕ → Bool) (n : ℕ) → ((j : ℕ) → j < n → f j ≡ g j) → maskTo f n ≡ maskTo g n
@@ -115,24 +113,6 @@ always-at (suc n) t h =
     by-truth (λ b. Holds n (t b))
     (always-at n (t true) (both-left (always n (t true)) (always n (t false)) h))
     (always-at n (t false) (both-right (always n (t true)) (always n (t false)) h))
-
--- the place by whether the channel is in the zone and whether it is the zone's manager channel
-abbrev placed : Bool → Bool → ZonePlace
-placed false own = Outside
-placed true true = AsManager
-placed true false = AsMember
-
-place-is : (members distance : ℕ) → placeOf members distance ≡ placed (inside (placeOf members distance)) (eqb distance 0)
-unfolding placeOf
-place-is members distance = by (eqb members 0) (eqb distance 0) (leb distance members)
-  where
-    by : (a b c : Bool)
-        → (if a then Outside else if b then AsManager else if c then AsMember else Outside)
-        ≡ placed (inside (if a then Outside else if b then AsManager else if c then AsMember else Outside)) b
-    by true b c = refl
-    by false true c = refl
-    by false false true = refl
-    by false false false = refl
 
 -- the change resets a channel with these roles before and after
 abbrev rolesHit : Change → MpeRole → MpeRole → Bool

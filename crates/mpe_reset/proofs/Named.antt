@@ -8,7 +8,7 @@ use lib.Dec.{eqb, lit<}
 use Rattle.ump.specs.Packet.{packetValue}
 use Rattle.ump.specs.Field.{bitFor, maskTo}
 use Rattle.ump.proofs.Mask.{mask-bit}
-use Rattle.mpe_layout.specs.Reset.{named}
+use Rattle.mpe_reset.specs.Reset.{named}
 
 bit-one : (b : Bool) → eqb (bitFor b) 1 ≡ b
 bit-one true = refl

@@ -1,13 +1,13 @@
--- `mpe_layout::mask_of` meets its contract: the law of the masks of the zones, by the kind of change.
+-- `mpe_reset::mask_of` meets its contract: the law of the masks of the zones, by the kind of change.
 -- Assumes nothing.
 use native.Mathlib.Omega.{arith}
 use borrow.Author.Needs.{needs}
 use Rattle.mpe_layout.specs.declared.MpeZone.the-variants.{Lower, Upper}
-use Rattle.mpe_layout.specs.declared.Change.the-variants.{Announced, Set}
 use Rattle.mpe_layout.proofs.Legal.{members-le}
-use Rattle.mpe_layout.proofs.Masks.{zones-mask}
-use Rattle.mpe_layout.proofs.mask_of.Statement.{statement}
-use Rattle.mpe_layout.proofs.mask_of.Tie as tie
+use Rattle.mpe_reset.specs.declared.Change.the-variants.{Announced, Set}
+use Rattle.mpe_reset.proofs.Masks.{zones-mask}
+use Rattle.mpe_reset.proofs.mask_of.Statement.{statement}
+use Rattle.mpe_reset.proofs.mask_of.Tie as tie
 
 lower-mask-requires : tie.Need-lower-mask-requires
 lower-mask-requires c κs = omega (arith, members-le (c .args .before) Lower (c .pre .0))

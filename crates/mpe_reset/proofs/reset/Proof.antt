@@ -1,10 +1,10 @@
--- `mpe_layout::reset` meets its contract: both layouts are tested, and the mask is that of `mask_of`.
+-- `mpe_reset::reset` meets its contract: both layouts are tested, and the mask is that of `mask_of`.
 -- Assumes nothing.
 use mathlib.Core.Path.{ap, sym, _∙_}
 use borrow.Author.Needs.{needs}
 use Rattle.ump.specs.Outcome.{given}
-use Rattle.mpe_layout.proofs.reset.Statement.{statement}
-use Rattle.mpe_layout.proofs.reset.Tie as tie
+use Rattle.mpe_reset.proofs.reset.Statement.{statement}
+use Rattle.mpe_reset.proofs.reset.Tie as tie
 
 is-layout-requires : tie.Need-is-layout-requires
 is-layout-requires c κs = search needs

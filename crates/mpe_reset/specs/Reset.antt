@@ -6,18 +6,16 @@ use lib.Dec.{eqb}
 use Rattle.ump.specs.Outcome.{Outcome, given, declined, outOfRange}
 use Rattle.ump.specs.Packet.{packetValue}
 use Rattle.ump.specs.Field.{field, maskTo}
-use Rattle.mpe_layout.specs.Layout.{placeOf, roleOf}
+use Rattle.mpe_layout.specs.Layout.{placeOf, inside, roleOf}
 use Rattle.mpe_layout.specs.declared.MpeZone.{MpeZone}
 use Rattle.mpe_layout.specs.declared.MpeZone.the-variants.{Lower, Upper}
 use Rattle.mpe_layout.specs.declared.MpeRole.{MpeRole}
 use Rattle.mpe_layout.specs.declared.MpeRole.the-variants.{NoZone, Manager, Member}
-use Rattle.mpe_layout.specs.declared.ZonePlace.{ZonePlace}
-use Rattle.mpe_layout.specs.declared.ZonePlace.the-variants.{Outside, AsManager, AsMember}
 use Rattle.mpe_layout.specs.declared.MpeLayout.{MpeLayout}
-use Rattle.mpe_layout.specs.declared.Change.{Change}
-use Rattle.mpe_layout.specs.declared.Change.the-variants.{Announced, Set}
-use Rattle.mpe_layout.specs.declared.ResetMask.{ResetMask}
-use Rattle.mpe_layout.specs.declared.ResetMask.the-variants.{Mask, OutOfRange}
+use Rattle.mpe_reset.specs.declared.Change.{Change}
+use Rattle.mpe_reset.specs.declared.Change.the-variants.{Announced, Set}
+use Rattle.mpe_reset.specs.declared.ResetMask.{ResetMask}
+use Rattle.mpe_reset.specs.declared.ResetMask.the-variants.{Mask, OutOfRange}
 
 abbrev pub sameZone : MpeZone → MpeZone → Bool
 sameZone Lower Lower = true
@@ -72,12 +70,6 @@ announcementMask before after zone = maskTo (announcementHit before after zone) 
 
 abbrev pub layoutMask : MpeLayout → MpeLayout → ℕ
 layoutMask before after = maskTo (layoutHit before after) 16
-
--- a place in the zone, as its manager or a member
-abbrev pub inside : ZonePlace → Bool
-inside Outside = false
-inside AsManager = true
-inside AsMember = true
 
 -- the channels of Lower with so many members, and of Upper
 unfoldable pub inLower : ℕ → ℕ → Bool

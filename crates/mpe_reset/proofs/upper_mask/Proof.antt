@@ -1,10 +1,10 @@
--- `mpe_layout::upper_mask` meets its contract: no member, or the law of the mask of Upper.
+-- `mpe_reset::upper_mask` meets its contract: no member, or the law of the mask of Upper.
 -- Assumes nothing.
 use borrow.Author.Needs.{needs}
 use Rattle.ump.proofs.Auto.{auto}
-use Rattle.mpe_layout.proofs.Masks.{upper-is}
-use Rattle.mpe_layout.proofs.upper_mask.Statement.{statement}
-use Rattle.mpe_layout.proofs.upper_mask.Tie as tie
+use Rattle.mpe_reset.proofs.Masks.{upper-is}
+use Rattle.mpe_reset.proofs.upper_mask.Statement.{statement}
+use Rattle.mpe_reset.proofs.upper_mask.Tie as tie
 
 returns : tie.Need-returns
 returns c = search (auto, ← upper-is (c .before .args .members) (c .before .pre))
