@@ -386,11 +386,11 @@ pub fn restatement_words(settings: Settings, out: &mut [u32]) -> Written
     ensures counts { λ _. ⌜ CountsHold ⌝ }
 {
     let reply = restated_reply(settings, message_count(settings.layout), out.len());
-    let Written::Count(n) = reply else {
+    let Written::Count(count) = reply else {
         return reply;
     };
     write_messages(settings, out);
-    Written::Count(n)
+    Written::Count(count)
 }
 
 // Puts the bytes of a message at a place, and gives the place after them.
