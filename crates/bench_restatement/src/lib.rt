@@ -1,13 +1,13 @@
 // A restatement, in one function that a C or Rust caller links (docs/BENCHMARKS.md).
 ghost use mathlib.Core.Path.{_≡_};
 ghost use lib.ListN.{length};
-ghost use Rattle.mpe_sender.specs.Zone.{filled, writtenRead};
+ghost use Rattle.zone_sender.specs.Zone.{filled, writtenRead};
 ghost use Rattle.settings.specs.Messages.{restatement, byteCount, restatedReply, countIn};
 ghost use Rattle.bench_restatement.specs.Bent.{bentTo};
 use mpe_layout::MpeLayout;
-use mpe_sender::Written;
 use restatement::restatement_bytes;
 use settings::Settings;
+use zone_sender::Written;
 
 // Two zones of seven, and this bend on every channel.
 fn bent(bend: u16) -> Settings

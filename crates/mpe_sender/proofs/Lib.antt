@@ -1,3 +1,3 @@
 -- Laws that proofs of this crate and of those above it cite.
-pub mod Groups
+pub mod Rpn
 pub mod Zones

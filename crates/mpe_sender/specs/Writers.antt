@@ -3,7 +3,6 @@ use Prim.Native.Nat.{ℕ}
 use mathlib.Core.Bool.{Bool}
 use mathlib.Core.List.{List, [], _∷_}
 use lib.Dec.{ltb, eqb}
-use lib.ListN.{length}
 use Rattle.ump.specs.Choice.{if_then_else_}
 use Rattle.ump.specs.Outcome.{Outcome, given, outOfRange, allOf, followedBy}
 use Rattle.ump.specs.Packet.{packetValue}
@@ -15,6 +14,8 @@ use Rattle.parameter_event.specs.declared.ParameterChange.the-variants.{DataEnt
 use Rattle.mpe_layout.specs.Layout.{ofLegal, membersOf, managerOf, lowestOf}
 use Rattle.mpe_layout.specs.declared.MpeZone.{MpeZone}
 use Rattle.mpe_layout.specs.declared.MpeLayout.{MpeLayout}
+use Rattle.mpe_sender.specs.declared.ActiveZone.{ActiveZone}
+use Rattle.mpe_sender.specs.declared.ActiveZone.the-variants.{Zone, OutOfRange}
 
 -- the word of a Control Change
 abbrev pub controlWord : ℕ → ℕ → ℕ → ℕ
@@ -38,10 +39,6 @@ mcmMessages zone members = if ltb 15 members then outOfRange else given (rpnGrou
 abbrev pub sensitivityGroup : ℕ → ℕ → List ℕ
 sensitivityGroup channel semitones = rpnGroup channel 0 0 semitones
 
--- how many they are
-abbrev pub groupSize : ℕ
-groupSize = length (sensitivityGroup 0 0)
-
 -- at most 96 semitones (2.2.5)
 unfoldable pub sensitivityMessages : ℕ → ℕ → Outcome (List ℕ)
 sensitivityMessages channel semitones =
@@ -50,6 +47,15 @@ sensitivityMessages channel semitones =
 -- to a writer an illegal layout and a zone without members are out of range
 abbrev pub inActive : {A : Type 0} → MpeLayout → MpeZone → Outcome A → Outcome A
 inActive l zone answer = ofLegal l (if eqb (membersOf l zone) 0 then outOfRange else answer)
+
+-- the lowest member and the member count of a zone
+abbrev pub zoneFor : MpeLayout → MpeZone → Outcome (ℕ × ℕ)
+zoneFor l zone = inActive l zone (given (lowestOf l zone, membersOf l zone))
+
+-- what the answer gives or declines
+abbrev pub zoneFound : ActiveZone → Outcome (ℕ × ℕ)
+zoneFound (Zone lowest members) = given (lowest, members)
+zoneFound OutOfRange = outOfRange
 
 -- Mono Mode On (126) with the member count, or Poly Mode On (127) with 0 (2.2.4.3)
 unfoldable pub modeOn : ℕ → ℕ → Bool → Outcome ℕ

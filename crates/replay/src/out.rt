@@ -4,7 +4,7 @@ use crate::line::MINUS;
 use crate::line::NUMBER;
 use crate::line::REFUSAL;
 use libc::STDOUT_FILENO;
-use mpe_sender::Written;
+use zone_sender::Written;
 
 // How many bytes wait in the buffer, and whether every write so far succeeded.
 pub(crate) struct Out {

@@ -2,13 +2,13 @@
 use crate::arguments;
 use crate::out::Out;
 use mpe_layout::MpeLayout;
-use mpe_sender::Written;
 use receiving_end::end::End;
 use receiving_end::end::step_all;
 use restatement::restatement_bytes;
 use restatement::restatement_words;
 use settings::Settings;
 use settings::ZoneSettings;
+use zone_sender::Written;
 ghost use Prim.Native.Nat.{_≤_};
 
 // The bytes and the words of a buffer before a call.

@@ -11,7 +11,7 @@ use mpe_sender::mcm_messages;
 use mpe_sender::mode_message;
 use mpe_sender::note_messages;
 use mpe_sender::sensitivity_messages;
-use mpe_sender::zone_sensitivity_messages;
+use zone_sender::zone_sensitivity_messages;
 ghost use Prim.Native.Nat.{_≤_};
 
 // The words of a buffer before a call.

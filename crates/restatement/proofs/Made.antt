@@ -17,10 +17,10 @@ use Rattle.ump.proofs.Cases.{by-test}
 use Rattle.mpe_layout.specs.Layout.{legal, managerOf, lowestOf}
 use Rattle.mpe_layout.specs.declared.MpeZone.{MpeZone}
 use Rattle.mpe_layout.proofs.Legal.{members-le}
-use Rattle.mpe_sender.specs.Writers.{controlWord, mcmMessages, modeOn, modeMessage, groupSize}
-use Rattle.mpe_sender.specs.Zone.{zoneGroups, zoneWords, fillReply, zoneReply, filled}
-use Rattle.mpe_sender.proofs.Groups.{groups-length}
+use Rattle.mpe_sender.specs.Writers.{controlWord, mcmMessages, modeOn, modeMessage}
 use Rattle.mpe_sender.proofs.Zones.{lowest-lt}
+use Rattle.zone_sender.specs.Zone.{groupSize, zoneGroups, zoneWords, fillReply, zoneReply, filled}
+use Rattle.zone_sender.proofs.Groups.{groups-length}
 use Rattle.settings.specs.Settings.{zoneOf, membersIn, isMono, shownSensitivity, shownMode, bendOn, pressureOn, brightnessOn, allowed}
 use Rattle.settings.specs.Messages.{announcement, sensitivities, modes, controlsOn, wordsIn, countIn}
 use Rattle.settings.specs.declared.Settings.{Settings}

@@ -12,10 +12,10 @@ use types.Run.{OneOf}
 use denote.Enum.Declared.{tagOf}
 use Rattle.ump.specs.Choice.{if_then_else_}
 use Rattle.ump.specs.Outcome.{Outcome, given, outOfRange, tooSmall}
-use Rattle.mpe_sender.specs.declared.Written.{Written}
-use Rattle.mpe_sender.specs.declared.Written.the-variants as written
-use Rattle.mpe_sender.proofs.Written.{the-type}
-use Rattle.mpe_sender.specs.Zone.{filled, writtenRead}
+use Rattle.zone_sender.specs.declared.Written.{Written}
+use Rattle.zone_sender.specs.declared.Written.the-variants as written
+use Rattle.zone_sender.proofs.Written.{the-type}
+use Rattle.zone_sender.specs.Zone.{filled, writtenRead}
 use Rattle.settings.specs.declared.Settings.{Settings}
 use Rattle.settings.specs.Settings.{allowed}
 use Rattle.settings.specs.Messages.{restatedReply}

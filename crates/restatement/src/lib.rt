@@ -9,7 +9,7 @@ ghost use Rattle.ump.specs.Outcome.{given, allOf};
 ghost use Rattle.ump.specs.Word.{bendWord, oneDataWord, controlChange, messageMade, twoMade, threeMade};
 ghost use Rattle.ump.specs.Packet.{packetValue};
 ghost use Rattle.mpe_layout.specs.Layout.{legal};
-ghost use Rattle.mpe_sender.specs.Zone.{filled, writtenRead};
+ghost use Rattle.zone_sender.specs.Zone.{filled, writtenRead};
 ghost use Rattle.settings.specs.Settings.{zoneOf, membersIn, shownSensitivity, shownMode, zoneAllowed, channelAllowed, andChannel, channelsAllowed, allowed};
 ghost use Rattle.settings.specs.Messages.{resets, announcements, sensitivities, modes, deselections, controls, messages, bytesOf, bytes, restatement, oneIfAny, messageCount, byteCount, restatedReply, CountsHold, wordsIn, countIn};
 ghost use Rattle.settings.specs.Demand.{Demand};
@@ -18,10 +18,8 @@ use mpe_layout::MadeLayout;
 use mpe_layout::MpeLayout;
 use mpe_layout::MpeZone;
 use mpe_pitch::MpeSensitivity;
-use mpe_sender::Written;
 use mpe_sender::mcm_messages;
 use mpe_sender::mode_message;
-use mpe_sender::zone_sensitivity_messages;
 use settings::Settings;
 use settings::ZoneSettings;
 use ump::channel_voice1::Message;
@@ -38,6 +36,8 @@ use ump::channel_voice1::three_words;
 use ump::channel_voice1::two_words;
 use ump::packet::Channel;
 use ump::packet::Group;
+use zone_sender::Written;
+use zone_sender::zone_sensitivity_messages;
 
 // The fields of a zone with so many members are inside their limits, or are not read.
 fn zone_allowed(members: u8, zone: ZoneSettings) -> bool

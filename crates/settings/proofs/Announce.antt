@@ -24,7 +24,7 @@ use Rattle.mpe_event.specs.Update.{announced}
 use Rattle.mpe_receiver.specs.declared.MpeReceiver.{MpeReceiver}
 use Rattle.mpe_receiver.specs.State.{zonesOf}
 use Rattle.mpe_receiver.specs.Receive.{stored, withUpdate, receivedByFields}
-use Rattle.mpe_sender.proofs.Groups.{manager-lt}
+use Rattle.mpe_sender.proofs.Zones.{manager-lt}
 use Rattle.receiving_end.specs.declared.end.End.{End}
 use Rattle.byte_reader.specs.Reader.{readerAt}
 use Rattle.receiving_end.specs.End.{withReader, withReceiver, withParameter, parameterAt}

@@ -16,9 +16,9 @@ use Rattle.mpe_layout.specs.declared.MpeZone.{MpeZone}
 use Rattle.mpe_layout.specs.declared.MpeZone.the-variants.{Lower, Upper}
 use Rattle.mpe_layout.specs.declared.MpeLayout.{MpeLayout}
 use Rattle.mpe_layout.proofs.Legal.{members-le, both-le}
-use Rattle.mpe_sender.specs.Zone.{channelAt, semitonesAt, zoneGroups, groupAt, groups, InRange}
-use Rattle.mpe_sender.proofs.Groups.{manager-lt, groups-length, channel-lt, semitones-le}
-use Rattle.mpe_sender.proofs.Zones.{members-in, lowest-lt}
+use Rattle.mpe_sender.proofs.Zones.{manager-lt, members-in, lowest-lt}
+use Rattle.zone_sender.specs.Zone.{channelAt, semitonesAt, zoneGroups, groupAt, groups, InRange}
+use Rattle.zone_sender.proofs.Groups.{groups-length, channel-lt, semitones-le}
 use Rattle.settings.specs.Settings.{zoneOf, membersIn, isMono, bendOn, pressureOn, brightnessOn, allowed}
 use Rattle.settings.specs.Messages.{eachChannel, resetOn, resets, announcement, announcements, sensitivities, modes, deselectionOn, deselections, brightnessController, controlsOn, controls, messages, bytesOf, bytes, restatement, oneIfAny, messageCount, byteCount, CountsHold}
 use Rattle.settings.specs.declared.Settings.{Settings}

@@ -32,9 +32,8 @@ use Rattle.mpe_receiver.specs.declared.MpeReceiver.{MpeReceiver}
 use Rattle.mpe_receiver.specs.State.{zonesOf}
 use Rattle.mpe_receiver.specs.Receive.{stored, receivedByFields}
 use Rattle.mpe_sender.specs.Writers.{controlWord, sensitivityGroup}
-use Rattle.mpe_sender.specs.Zone.{zoneGroups, channelAt, semitonesAt, groupAt, groups, zoneWords}
-use Rattle.mpe_sender.proofs.Groups.{manager-lt}
-use Rattle.mpe_sender.proofs.Zones.{members-in, lowest-lt}
+use Rattle.mpe_sender.proofs.Zones.{manager-lt, members-in, lowest-lt}
+use Rattle.zone_sender.specs.Zone.{zoneGroups, channelAt, semitonesAt, groupAt, groups, zoneWords}
 use Rattle.receiving_end.specs.declared.end.End.{End}
 use Rattle.byte_reader.specs.Reader.{readerAt}
 use Rattle.receiving_end.specs.End.{withReader, withReceiver, withParameter, parameterAt}

@@ -13,7 +13,7 @@ use Rattle.mpe_layout.specs.declared.MpeZone.the-variants.{Lower, Upper}
 use Rattle.mpe_layout.specs.declared.MpeLayout.{MpeLayout}
 use Rattle.mpe_layout.specs.Layout.{managerOf, lowestOf}
 use Rattle.mpe_sender.specs.Writers.{controlWord, rpnGroup}
-use Rattle.mpe_sender.specs.Zone.{zoneWords}
+use Rattle.zone_sender.specs.Zone.{zoneWords}
 use Rattle.settings.specs.declared.Settings.{Settings}
 use Rattle.settings.specs.Settings.{zoneOf, membersIn, isMono, bendOn, pressureOn, brightnessOn, allowed}
 

@@ -3,7 +3,7 @@
 use mathlib.Core.Path.{ap, _∙_}
 use lib.ListN.{length}
 use borrow.Author.Needs.{needs}
-use Rattle.mpe_sender.specs.Zone.{filled}
+use Rattle.zone_sender.specs.Zone.{filled}
 use Rattle.settings.specs.declared.Settings.{Settings}
 use Rattle.settings.specs.Messages.{restatement, byteCount, restatedReply, countIn}
 use borrow.Author.Needs.{needs}

@@ -10,7 +10,8 @@ use Rattle.mpe_layout.specs.Layout.{managerOf}
 use Rattle.ump.specs.declared.controller.Rpn.the-variants.{Other}
 use Rattle.ump.specs.Outcome.{given}
 use Rattle.ump.proofs.Auto.{auto}
-use Rattle.mpe_sender.proofs.Groups.{rpn-given, manager-channel}
+use Rattle.mpe_sender.proofs.Rpn.{rpn-given}
+use Rattle.mpe_sender.proofs.Zones.{manager-channel}
 use Rattle.mpe_sender.specs.Writers.{rpnGroup, rpnMessages, mcmMessages}
 use Rattle.mpe_sender.proofs.mcm_messages.Statement.{statement}
 use Rattle.mpe_sender.proofs.mcm_messages.Tie as tie

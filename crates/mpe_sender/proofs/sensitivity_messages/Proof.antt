@@ -7,7 +7,7 @@ use Prim.Native.Nat.{_≤_}
 use mathlib.Core.Path.{_∙_}
 use borrow.Author.Needs.{needs}
 use Rattle.ump.proofs.Auto.{auto}
-use Rattle.mpe_sender.proofs.Groups.{rpn-given}
+use Rattle.mpe_sender.proofs.Rpn.{rpn-given}
 use Rattle.mpe_sender.specs.Writers.{sensitivityMessages}
 use Rattle.mpe_sender.proofs.sensitivity_messages.Statement.{statement}
 use Rattle.mpe_sender.proofs.sensitivity_messages.Tie as tie

@@ -6,7 +6,7 @@ use mathlib.Core.List.{_++_}
 use lib.ListN.{length, take, drop, replicate}
 use lib.Seq.{sets, length-sets}
 use Rattle.ump.specs.Outcome.{Outcome, given}
-use Rattle.mpe_sender.specs.Zone.{filled, writtenRead}
+use Rattle.zone_sender.specs.Zone.{filled, writtenRead}
 use Rattle.settings.specs.Messages.{messages, bytes, restatement, messageCount, byteCount, restatedReply}
 use Rattle.settings.specs.Demand.{Demand}
 use Rattle.settings.specs.Witnesses.{Met}

@@ -4,7 +4,7 @@ use mathlib.Core.Path.{_≡_, sym, ap, _∙_}
 use mathlib.Core.List.{_++_}
 use lib.ListN.{length, drop}
 use Rattle.ump.specs.Outcome.{given}
-use Rattle.mpe_sender.specs.Zone.{filled, writtenRead}
+use Rattle.zone_sender.specs.Zone.{filled, writtenRead}
 use Rattle.settings.specs.Messages.{messages, messageCount, restatedReply}
 use Rattle.settings.proofs.Counts.{message-count, counts-hold}
 use Rattle.restatement.proofs.Sets.{sets-front}

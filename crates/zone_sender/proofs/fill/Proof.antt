@@ -1,4 +1,4 @@
--- `mpe_sender::fill` meets its contract: each test in its turn, then all groups.
+-- `zone_sender::fill` meets its contract: each test in its turn, then all groups.
 -- Assumes nothing.
 use mathlib.Core.Path.{refl}
 use borrow.Author.Tests.{le-ltb}
@@ -6,10 +6,9 @@ use lib.ListN.{length}
 use Prim.Native.Nat.{_+_, _*_}
 use borrow.Author.Needs.{needs}
 use Rattle.ump.proofs.Auto.{auto}
-use Rattle.mpe_sender.specs.Zone.{fillReply}
-use Rattle.mpe_sender.specs.Writers.{groupSize}
-use Rattle.mpe_sender.proofs.fill.Statement.{statement}
-use Rattle.mpe_sender.proofs.fill.Tie as tie
+use Rattle.zone_sender.specs.Zone.{groupSize, fillReply}
+use Rattle.zone_sender.proofs.fill.Statement.{statement}
+use Rattle.zone_sender.proofs.fill.Tie as tie
 
 returns : tie.Need-returns
 unfolding fillReply

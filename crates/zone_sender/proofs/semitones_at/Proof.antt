@@ -1,9 +1,9 @@
--- `mpe_sender::semitones_at` meets its contract: the manager first, then the members.
+-- `zone_sender::semitones_at` meets its contract: the manager first, then the members.
 -- Assumes nothing.
 use Rattle.ump.proofs.Auto.{auto}
-use Rattle.mpe_sender.specs.Zone.{semitonesAt}
-use Rattle.mpe_sender.proofs.semitones_at.Statement.{statement}
-use Rattle.mpe_sender.proofs.semitones_at.Tie as tie
+use Rattle.zone_sender.specs.Zone.{semitonesAt}
+use Rattle.zone_sender.proofs.semitones_at.Statement.{statement}
+use Rattle.zone_sender.proofs.semitones_at.Tie as tie
 
 returns : tie.Need-returns
 unfolding semitonesAt

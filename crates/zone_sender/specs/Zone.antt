@@ -2,27 +2,20 @@
 use Prim.Native.Nat.{ℕ, zero, suc, _+_, _*_, _-_, _<_, _≤_}
 use mathlib.Core.List.{List, [], _++_}
 use lib.Dec.{ltb, eqb}
-use lib.ListN.{drop}
+use lib.ListN.{length, drop}
 use Rattle.ump.specs.Choice.{if_then_else_}
 use Rattle.ump.specs.Outcome.{Outcome, given, declined, outOfRange, tooSmall}
-use Rattle.mpe_layout.specs.Layout.{ofLegal, membersOf, managerOf, lowestOf, lowestOrNone}
+use Rattle.mpe_layout.specs.Layout.{membersOf, managerOf, lowestOf}
 use Rattle.mpe_layout.specs.declared.MpeZone.{MpeZone}
 use Rattle.mpe_layout.specs.declared.MpeLayout.{MpeLayout}
-use Rattle.mpe_sender.specs.Writers.{sensitivityGroup, groupSize, inActive}
-use Rattle.mpe_sender.specs.declared.ActiveZone.{ActiveZone}
-use Rattle.mpe_sender.specs.declared.ActiveZone.the-variants as activeZone
-use Rattle.mpe_sender.specs.declared.ZoneGroups.{ZoneGroups}
-use Rattle.mpe_sender.specs.declared.Written.{Written}
-use Rattle.mpe_sender.specs.declared.Written.the-variants.{Count, OutOfRange, TooSmall}
+use Rattle.mpe_sender.specs.Writers.{sensitivityGroup, inActive}
+use Rattle.zone_sender.specs.declared.ZoneGroups.{ZoneGroups}
+use Rattle.zone_sender.specs.declared.Written.{Written}
+use Rattle.zone_sender.specs.declared.Written.the-variants.{Count, OutOfRange, TooSmall}
 
--- a zone with members
-abbrev pub zoneFrom : Outcome ℕ → Outcome ℕ → ActiveZone
-zoneFrom (given lowest) (given members) = activeZone.Zone lowest members
-zoneFrom (given lowest) (declined n v) = activeZone.OutOfRange
-zoneFrom (declined n v) members = activeZone.OutOfRange
-
-abbrev pub zoneFor : MpeLayout → MpeZone → ActiveZone
-zoneFor l zone = zoneFrom (ofLegal l (lowestOrNone zone (membersOf l zone))) (ofLegal l (given (membersOf l zone)))
+-- how many messages set the sensitivity of a channel
+abbrev pub groupSize : ℕ
+groupSize = length (sensitivityGroup 0 0)
 
 -- the channels of a zone: the manager, then the members rising
 unfoldable pub channelAt : ℕ → ℕ → ℕ → ℕ

@@ -1,4 +1,4 @@
--- `mpe_sender::write_groups` meets its contract: after k turns the first k groups stand in front of what was there.
+-- `zone_sender::write_groups` meets its contract: after k turns the first k groups stand in front of what was there.
 -- Assumes nothing.
 use mathlib.Core.Path.{_≡_, refl, _∙_}
 use mathlib.Core.List.{_++_}
@@ -7,11 +7,10 @@ use native.Mathlib.Nat.{le-refl}
 use native.Mathlib.Omega.{arith}
 use lib.ListN.{length, drop}
 use borrow.Rule.Slice.PartMut.{midOf, mid-len, same-len-mid}
-use Rattle.mpe_sender.specs.Writers.{groupSize}
-use Rattle.mpe_sender.specs.Zone.{groups}
-use Rattle.mpe_sender.proofs.Groups.{groups-more}
-use Rattle.mpe_sender.proofs.write_groups.Statement.{statement}
-use Rattle.mpe_sender.proofs.write_groups.Tie as tie
+use Rattle.zone_sender.specs.Zone.{groupSize, groups}
+use Rattle.zone_sender.proofs.Groups.{groups-more}
+use Rattle.zone_sender.proofs.write_groups.Statement.{statement}
+use Rattle.zone_sender.proofs.write_groups.Tie as tie
 
 abbrev Inv-loop : tie.InvT-loop
 Inv-loop out₀ zone n k₀ out k =

@@ -1,42 +1,22 @@
--- Groups of messages: the words of a parameter's group, groups at the front of a buffer, and one group more behind those that are written.
+-- Groups of messages at the front of a buffer, and one group more behind those that are written.
 -- Assumes nothing.
 use mathlib.Core.Path.{_≡_, refl, _∙_}
 use mathlib.Core.List.{List, [], _∷_, _++_, append-assoc, append-nil}
-use Prim.Native.Nat.{ℕ, zero, suc, _+_, _*_, _-_, _%_, _<_, _≤_}
+use Prim.Native.Nat.{ℕ, zero, suc, _+_, _*_, _-_, _<_, _≤_}
 use native.Mathlib.Nat.{le-refl, mod-eq-of-lt}
 use native.Mathlib.Numerals.{add-one}
 use native.Mathlib.Omega.{arith}
-use lib.Dec.{eqb, lit<}
+use lib.Dec.{eqb}
 use lib.ListN.{length, take, drop, set, length-append, length-drop}
 use lib.Seq.{take-at, drop-at, drop-drop, take-all, drop-length}
 use borrow.Author.Tests.{le-ltb, eqb-false}
 use borrow.Rule.Slice.PartMut.{midOf, putMid, post-is}
-use Rattle.ump.specs.Outcome.{given, outOfRange, allOf, followedBy}
+use Rattle.ump.specs.Outcome.{given, outOfRange}
 use Rattle.ump.specs.Packet.{packetValue}
-use Rattle.ump.specs.Word.{controlChange, twoDataWord}
 use Rattle.ump.proofs.Cases.{by-test}
-use Rattle.parameter_messages.specs.Writers.{numberMessages}
-use Rattle.mpe_layout.specs.Layout.{managerOf}
-use Rattle.mpe_layout.specs.declared.MpeZone.{MpeZone}
-use Rattle.mpe_layout.specs.declared.MpeZone.the-variants.{Lower, Upper}
-use Rattle.mpe_sender.specs.Writers.{rpnGroup, sensitivityGroup, groupSize, sensitivityMessages}
-use Rattle.mpe_sender.specs.Zone.{channelAt, semitonesAt, groupAt, InRange, groups}
-use Rattle.mpe_sender.specs.declared.ZoneGroups.{ZoneGroups}
-
--- a number and a value of seven bits give the group's three words
-pub rpn-given : (channel msb lsb value : ℕ) → msb ≤ 0x7F → lsb ≤ 0x7F → value ≤ 0x7F
-    → followedBy (numberMessages channel 101 100 msb lsb) (allOf (controlChange channel 6 value ∷ [])) ≡ given (rpnGroup (channel % 16) msb lsb value)
-unfolding twoDataWord
-rpn-given channel msb lsb value m l v = rw (le-ltb 0x7F msb m, le-ltb 0x7F lsb l, le-ltb 0x7F value v)
-
--- a manager is a channel
-pub manager-lt : (zone : MpeZone) → managerOf zone < 16
-manager-lt Lower = lit< tt
-manager-lt Upper = lit< tt
-
-pub manager-channel : (zone : MpeZone) → managerOf zone % 16 ≡ managerOf zone
-manager-channel Lower = refl
-manager-channel Upper = refl
+use Rattle.mpe_sender.specs.Writers.{sensitivityGroup, sensitivityMessages}
+use Rattle.zone_sender.specs.Zone.{groupSize, channelAt, semitonesAt, groupAt, InRange, groups}
+use Rattle.zone_sender.specs.declared.ZoneGroups.{ZoneGroups}
 
 pub group-length : (channel semitones : ℕ) → length (sensitivityGroup channel semitones) ≡ groupSize
 group-length channel semitones = refl

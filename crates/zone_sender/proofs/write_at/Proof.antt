@@ -1,4 +1,4 @@
--- `mpe_sender::write_at` meets its contract: the group of the k-th channel.
+-- `zone_sender::write_at` meets its contract: the group of the k-th channel.
 -- Assumes nothing.
 use native.Mathlib.Omega.{arith}
 use Prim.Native.Nat.{_+_}
@@ -6,10 +6,11 @@ use mathlib.Core.Path.{_∙_}
 use mathlib.Core.List.{_++_}
 use lib.ListN.{drop}
 use borrow.Author.Needs.{needs}
-use Rattle.mpe_sender.specs.Writers.{sensitivityGroup, groupSize}
-use Rattle.mpe_sender.proofs.Groups.{channel-lt, semitones-le}
-use Rattle.mpe_sender.proofs.write_at.Statement.{statement}
-use Rattle.mpe_sender.proofs.write_at.Tie as tie
+use Rattle.mpe_sender.specs.Writers.{sensitivityGroup}
+use Rattle.zone_sender.specs.Zone.{groupSize}
+use Rattle.zone_sender.proofs.Groups.{channel-lt, semitones-le}
+use Rattle.zone_sender.proofs.write_at.Statement.{statement}
+use Rattle.zone_sender.proofs.write_at.Tie as tie
 
 channel-at-requires : tie.Need-channel-at-requires
 channel-at-requires c κs = search needs

@@ -1,15 +1,15 @@
--- `mpe_sender::zone_sensitivity_messages` meets its contract: refused in an inactive zone, else `fill` with the zone's numbers.
+-- `zone_sender::zone_sensitivity_messages` meets its contract: refused in an inactive zone, else `fill` with the zone's numbers.
 -- Assumes nothing.
 use lib.ListN.{length}
 use native.Mathlib.Omega.{arith}
 use mathlib.Core.Path.{_∙_, sym, ap}
 use borrow.Author.Needs.{needs}
 use Rattle.mpe_layout.specs.Layout.{membersOf}
-use Rattle.mpe_sender.proofs.Zones.{active, inactive, members-in}
-use Rattle.mpe_sender.proofs.Groups.{manager-lt}
-use Rattle.mpe_sender.specs.Zone.{zoneWords, fillReply, filled}
-use Rattle.mpe_sender.proofs.zone_sensitivity_messages.Statement.{statement}
-use Rattle.mpe_sender.proofs.zone_sensitivity_messages.Tie as tie
+use Rattle.mpe_sender.specs.Writers.{zoneFound}
+use Rattle.mpe_sender.proofs.Zones.{active, inactive, manager-lt, members-in}
+use Rattle.zone_sender.specs.Zone.{zoneWords, fillReply, filled}
+use Rattle.zone_sender.proofs.zone_sensitivity_messages.Statement.{statement}
+use Rattle.zone_sender.proofs.zone_sensitivity_messages.Tie as tie
 
 active-zone-requires : tie.Need-active-zone-requires
 active-zone-requires c κs = search needs
@@ -24,7 +24,7 @@ returns : tie.Need-returns
 returns c = let d = c .before .before in
     let a = d .before .before .args in
     let xs = a .out .now in
-    let e = sym (d .active-zone .ensures) ∙ c .enum-told .given .1 in
+    let e = sym (ap zoneFound (c .enum-told .given .1)) ∙ d .active-zone .ensures in
     let q = inactive (a .layout) (a .zone) (fillReply (membersOf (a .layout) (a .zone)) (a .manager) (a .member) (length xs)) e in
     (q, ap (λ o. filled o (zoneWords (a .layout) (a .zone) (a .manager) (a .member)) xs) q)
 
@@ -34,7 +34,7 @@ manager-requires c κs = search needs
 fill-requires : tie.Need-fill-requires
 fill-requires c κs = let d = c .before .before .before in
     let a = d .before .before .before .before .args in
-    let z = active (a .layout) (a .zone) _ _ (sym (d .before .before .active-zone .ensures) ∙ d .found .given .1) in (
+    let z = active (a .layout) (a .zone) _ _ (sym (ap zoneFound (d .found .given .1)) ∙ d .before .before .active-zone .ensures) in (
       omega (arith, c .before .manager .ensures, manager-lt (a .zone)),
       omega (arith, z .is-lowest, z .is-members, members-in (a .layout) (a .zone) (z .is-legal)),
     )
@@ -46,7 +46,7 @@ returns-2 : tie.Need-returns-2
 returns-2 c = let f = c .before .before in
     let d = f .before .before .before .before in
     let a = d .before .before .before .before .args in
-    let z = active (a .layout) (a .zone) _ _ (sym (d .before .before .active-zone .ensures) ∙ d .found .given .1) in
+    let z = active (a .layout) (a .zone) _ _ (sym (ap zoneFound (d .found .given .1)) ∙ d .before .before .active-zone .ensures) in
     rw (z .is-legal, z .some, ← z .is-lowest, ← z .is-members, ← f .before .before .manager .ensures) (f .fill .ensures)
 
 pub zone-sensitivity-messages-spec : {M : Type 1} → statement M

@@ -1,4 +1,4 @@
--- `mpe_sender::write_group` meets its contract: the three words that are given stand in front of the rest.
+-- `zone_sender::write_group` meets its contract: the three words that are given stand in front of the rest.
 -- Assumes nothing.
 use lib.ListN.{drop, length-set}
 use native.Mathlib.Omega.{arith}
@@ -7,9 +7,9 @@ use mathlib.Core.List.{List, _++_}
 use mathlib.Core.Path.{_∙_, sym, ap}
 use borrow.Author.Needs.{needs}
 use Rattle.ump.specs.Word.{threeMade}
-use Rattle.mpe_sender.proofs.Groups.{three, group-words, group-made}
-use Rattle.mpe_sender.proofs.write_group.Statement.{statement}
-use Rattle.mpe_sender.proofs.write_group.Tie as tie
+use Rattle.zone_sender.proofs.Groups.{three, group-words, group-made}
+use Rattle.zone_sender.proofs.write_group.Statement.{statement}
+use Rattle.zone_sender.proofs.write_group.Tie as tie
 
 sensitivity-messages-requires : tie.Need-sensitivity-messages-requires
 sensitivity-messages-requires c κs = search needs

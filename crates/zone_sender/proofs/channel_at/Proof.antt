@@ -1,10 +1,10 @@
--- `mpe_sender::channel_at` meets its contract: the manager first, then the members.
+-- `zone_sender::channel_at` meets its contract: the manager first, then the members.
 -- Assumes nothing.
 use borrow.Author.Needs.{needs}
 use Rattle.ump.proofs.Auto.{auto}
-use Rattle.mpe_sender.specs.Zone.{channelAt}
-use Rattle.mpe_sender.proofs.channel_at.Statement.{statement}
-use Rattle.mpe_sender.proofs.channel_at.Tie as tie
+use Rattle.zone_sender.specs.Zone.{channelAt}
+use Rattle.zone_sender.proofs.channel_at.Statement.{statement}
+use Rattle.zone_sender.proofs.channel_at.Tie as tie
 
 returns : tie.Need-returns
 unfolding channelAt

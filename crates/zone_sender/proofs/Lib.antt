@@ -1,0 +1,2 @@
+-- Laws that proofs of this crate and of those above it cite.
+pub mod Groups
