@@ -1,2 +1,3 @@
--- Definitions that the contracts cite: runs of calls.
+-- Definitions that the contracts cite: runs of calls, and the settings that are restated.
 pub mod Runs
+pub mod Bent

@@ -1,10 +1,14 @@
-// Runs of other calls by value, each in one function that a C or Rust caller links (docs/BENCHMARKS.md).
+// Runs of other calls, each in one function that a C or Rust caller links (docs/BENCHMARKS.md).
 ghost use mathlib.Core.Path.{_≡_};
+ghost use lib.ListN.{length};
 ghost use Rattle.receiving_end.specs.End.{newEnd};
 ghost use Rattle.receiving_end.specs.Lists.{afterBytes};
 ghost use Rattle.mpe_receiver.specs.Read.{offsetRead};
 ghost use Rattle.mpe_allocator.specs.Allocator.{noteReplyRead};
+ghost use Rattle.zone_sender.specs.Zone.{filled, writtenRead};
+ghost use Rattle.settings.specs.Messages.{restatement, byteCount, restatedReply, countIn};
 ghost use Rattle.bench_calls.specs.Runs.{magnitudeIn, channelIn, offsetsSum, noted, notesSum};
+ghost use Rattle.bench_calls.specs.Bent.{bentTo};
 use mpe_allocator::MpeNoteAllocator;
 use mpe_allocator::NoteReply;
 use mpe_layout::MpeLayout;
@@ -13,6 +17,9 @@ use mpe_pitch::unsigned_abs;
 use mpe_receiver::Offset;
 use receiving_end::end::End;
 use receiving_end::end::step_all;
+use restatement::restatement_bytes;
+use settings::Settings;
+use zone_sender::Written;
 
 // An allocator, and the sum of the channels that it gave.
 struct Noted {
@@ -99,4 +106,35 @@ pub extern "C" fn gurfemau_notes(notes: &[u8]) -> u64
         i += 1;
     }
     n.sum
+}
+
+// Two zones of seven, and this bend on every channel.
+fn bent(bend: u16) -> Settings
+    ensures { λ r. ⌜ r ≡ bentTo bend ⌝ }
+{
+    let layout = MpeLayout { lower: 7, upper: 7 };
+    let mut settings = Settings::new();
+    settings.layout = layout;
+    settings.pitch_bend = [bend; 16];
+    settings
+}
+
+fn count(written: Written) -> usize
+    ensures { λ r. ⌜ r ≡ countIn (writtenRead written) ⌝ }
+{
+    match written {
+        Written::Count(n) => n,
+        Written::OutOfRange => 0,
+        Written::TooSmall { needed, got } => 0,
+    }
+}
+
+// Writes the restatement of these settings, and answers how many bytes it has; 0 for a refusal.
+#[no_mangle]
+pub extern "C" fn gurfemau_restatement(bend: u16, out: &mut [u8]) -> usize
+    ensures reply { λ r. ⌜ r ≡ countIn (restatedReply (bentTo bend) (byteCount (bentTo bend .layout)) (length (now (out .entry)))) ⌝ }
+    ensures buffer { λ _. ⌜ now (out .exit) ≡ filled (restatedReply (bentTo bend) (byteCount (bentTo bend .layout)) (length (now (out .entry)))) (restatement (bentTo bend)) (now (out .entry)) ⌝ }
+{
+    let written = restatement_bytes(bent(bend), out);
+    count(written)
 }

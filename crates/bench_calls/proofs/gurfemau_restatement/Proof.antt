@@ -1,14 +1,13 @@
--- `bench_restatement::gurfemau_restatement` meets its contract.
+-- `bench_calls::gurfemau_restatement` meets its contract.
 -- Assumes nothing.
 use mathlib.Core.Path.{ap, _∙_}
 use lib.ListN.{length}
-use borrow.Author.Needs.{needs}
 use Rattle.zone_sender.specs.Zone.{filled}
 use Rattle.settings.specs.declared.Settings.{Settings}
 use Rattle.settings.specs.Messages.{restatement, byteCount, restatedReply, countIn}
 use borrow.Author.Needs.{needs}
-use Rattle.bench_restatement.proofs.gurfemau_restatement.Statement.{statement}
-use Rattle.bench_restatement.proofs.gurfemau_restatement.Tie as tie
+use Rattle.bench_calls.proofs.gurfemau_restatement.Statement.{statement}
+use Rattle.bench_calls.proofs.gurfemau_restatement.Tie as tie
 
 bent-requires : tie.Need-bent-requires
 bent-requires c κs = search needs

@@ -1,12 +1,12 @@
--- `bench_restatement::bent` meets its contract.
+-- `bench_calls::bent` meets its contract.
 -- Assumes nothing.
 use mathlib.Core.Path.{ap}
 use lib.ListN.{replicate}
 use borrow.Author.Needs.{needs}
 use Rattle.mpe_layout.specs.Layout.{layoutOf}
 use Rattle.settings.specs.declared.Settings.{Settings}
-use Rattle.bench_restatement.proofs.bent.Statement.{statement}
-use Rattle.bench_restatement.proofs.bent.Tie as tie
+use Rattle.bench_calls.proofs.bent.Statement.{statement}
+use Rattle.bench_calls.proofs.bent.Tie as tie
 
 new-requires : tie.Need-new-requires
 new-requires c κs = search needs
