@@ -1,9 +1,8 @@
 // What a message does to the zones of an MPE receiver, and its event (mpe.rs).
 ghost use mathlib.Core.Path.{_≡_};
 ghost use Rattle.mpe_layout.specs.Layout.{lowestFound};
-ghost use Rattle.mpe_reset.specs.Reset.{maskFound};
 ghost use Rattle.mpe_zones.specs.Zones.{monoOf};
-ghost use Rattle.mpe_event.specs.Update.{decodedRpn, decodedParameter, decodedEvent, decoded, zonesUpdate, announcementEvent, announced, configuredBy, configured, announcedOn, sensitivityUpdate, inMode4, modeEvent, otherOnMember, isLowest, isLowestIn, onMember, plainEvent, modeSet, updatedAs, messageUpdate, mpeReplyRead, zonesReply, zonesAfter, resetIn};
+ghost use Rattle.mpe_event.specs.Update.{decodedRpn, decodedParameter, decodedEvent, decoded, zonesUpdate, announced, configuredBy, configured, announcedOn, sensitivityUpdate, inMode4, modeEvent, otherOnMember, isLowest, isLowestIn, onMember, plainEvent, modeSet, updatedAs, messageUpdate, mpeReplyRead, zonesReply, zonesAfter, resetIn};
 ghost use Rattle.mpe_event.specs.Claims.{ReceiverCases};
 use mpe_layout::LowestMember;
 use mpe_layout::MpeRole;
@@ -189,16 +188,6 @@ fn announced_on(channel: u8) -> AnnouncedZone
     AnnouncedZone::NoneAnnounced
 }
 
-// What an announcement gives: a change of the layout, or nothing.
-fn announcement_event(reply: ResetMask) -> MpeEvent
-    ensures { λ r. ⌜ r ≡ announcementEvent (maskFound reply) ⌝ }
-{
-    match reply {
-        ResetMask::Mask(reset) => MpeEvent::Layout { reset },
-        ResetMask::OutOfRange => MpeEvent::Ignored,
-    }
-}
-
 // The channels that an event resets.
 pub fn reset_in(event: MpeEvent) -> u16
     ensures { λ r. ⌜ r ≡ resetIn event ⌝ }
@@ -232,7 +221,10 @@ fn announce(zones: Zones, zone: MpeZone, members: u8) -> ZonesUpdate
     let set = zones.announce(zone, members);
     let after = set.zones;
     let reply = set.reply;
-    with_event(after, announcement_event(reply))
+    match reply {
+        ResetMask::Mask(reset) => with_event(after, MpeEvent::Layout { reset }),
+        ResetMask::OutOfRange => with_event(after, MpeEvent::Ignored),
+    }
 }
 
 fn configure(zones: Zones, zone: MpeZone, change: ParameterChange) -> ZonesUpdate

@@ -84,18 +84,19 @@ impl MpeReceiver {
         }
     }
 
-    // Stores bend, pressure or brightness, whatever the channel's role.
+    // Stores bend, pressure or brightness, whatever the channel's role. The receiver is copied only where something is stored.
     fn store(self, opcode: u8, channel: u8, first: u8, second: u8) -> MpeReceiver
         requires { ⌜ channel < 16 ⌝ }
         ensures { λ r. ⌜ r ≡ stored self opcode channel first second ⌝ }
     {
         let i = channel as usize;
-        let mut r = self;
         if opcode == 0xE {
+            let mut r = self;
             r.pitch_bend[i] = second as u16 * 128 + first as u16;
             return r;
         }
         if opcode == 0xD {
+            let mut r = self;
             r.pressure[i] = first;
             return r;
         }
@@ -103,10 +104,12 @@ impl MpeReceiver {
             return self;
         }
         if first == 74 {
+            let mut r = self;
             r.brightness[i] = second;
             return r;
         }
         if first == 121 {
+            let mut r = self;
             r.pitch_bend[i] = 0x2000;
             r.pressure[i] = 0;
             return r;

@@ -220,12 +220,13 @@ impl Zones {
         let MadeLayout::Made(after) = before.with_mcm(zone, members) else {
             return self.declined();
         };
+        let mask = mask_or_zero(announcement_reset(before, after, zone));
         let mut laid = self;
         laid.layout = after;
         let zones = laid.activate_if(members, zone);
         ZonesLayoutSet {
             zones,
-            reply: announcement_reset(before, after, zone),
+            reply: ResetMask::Mask(mask),
         }
     }
 

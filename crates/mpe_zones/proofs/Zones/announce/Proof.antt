@@ -10,7 +10,7 @@ use Rattle.ump.proofs.Cases.{by-test, chosen, passed}
 use Rattle.mpe_layout.specs.declared.MpeZone.{MpeZone}
 use Rattle.mpe_layout.specs.declared.MpeLayout.{MpeLayout}
 use Rattle.mpe_layout.specs.Layout.{legal, ofLegal, layoutMade, mcmLayout, withMcm}
-use Rattle.mpe_reset.specs.Reset.{announcementMask}
+use Rattle.mpe_reset.specs.Reset.{announcementMask, maskOrZero}
 use Rattle.mpe_layout.proofs.Mcm.{mcm-legal}
 use Rattle.mpe_zones.specs.Zones.{withLayout, activatedIf, zonesAnnounced, announcedReply}
 use Rattle.mpe_zones.proofs.Activation.{activates}
@@ -74,17 +74,20 @@ returns-2 c =
     let h = declined-illegal (a .self .layout) (a .zone) (a .members) (ap layoutMade (sym (c .before .enum-told .given .1)) ∙ m .with-mcm .ensures) in
     (rw (within, h) (c .declined2 .ensures .0), (rw (within, h) (c .declined2 .ensures .1), activates))
 
-activate-if-requires : tie.Need-activate-if-requires
-activate-if-requires c κs = search needs
-
 announcement-reset-requires : tie.Need-announcement-reset-requires
 announcement-reset-requires c κs = search needs
+
+mask-or-zero-requires : tie.Need-mask-or-zero-requires
+mask-or-zero-requires c κs = search needs
+
+activate-if-requires : tie.Need-activate-if-requires
+activate-if-requires c κs = search needs
 
 returns-3 : tie.Need-returns-3
 unfolding announcedReply zonesAnnounced
 returns-3 c =
-    let v = c .before in
-    let k = v .before .before in
+    let r = c .before .before in
+    let k = r .before .before in
     let m = k .before .before in
     let a = m .before .before .before .args in
     let l = a .self .layout in
@@ -92,9 +95,11 @@ returns-3 c =
     let e = ap layoutMade (sym (k .after .given .1)) ∙ m .with-mcm .ensures in
     let h = given-legal l (a .zone) (a .members) e in
     let to = given-after l (a .zone) (a .members) e in
-    let mask = c .announcement-reset .ensures ∙ ap (λ x. ofLegal l (ofLegal x (given (announcementMask l x (a .zone))))) to in
-    let zones = v .activate-if .ensures ∙ ap (λ x. activatedIf (a .members) (withLayout (a .self) x) (a .zone)) to in
-    (rw (within, h) (mask ∙ rw (h, mcm-legal l (a .zone) (a .members) h)), (rw (within, h) zones, activates))
+    let mask = r .announcement-reset .ensures ∙ ap (λ x. ofLegal l (ofLegal x (given (announcementMask l x (a .zone))))) to in
+    let zones = c .activate-if .ensures ∙ ap (λ x. activatedIf (a .members) (withLayout (a .self) x) (a .zone)) to in
+    let found : ofLegal l (ofLegal (withMcm l (a .zone) (a .members)) (given (announcementMask l (withMcm l (a .zone) (a .members)) (a .zone))))
+    ≡ given (announcementMask l (withMcm l (a .zone) (a .members)) (a .zone)) = rw (h, mcm-legal l (a .zone) (a .members) h) in
+    (rw (within, h) (ap given (c .before .mask-or-zero .ensures ∙ ap maskOrZero (mask ∙ found))), (rw (within, h) zones, activates))
 
 pub announce-spec : {M : Type 1} → statement M
 announce-spec =
@@ -107,6 +112,7 @@ announce-spec =
     enum-told
     declined-requires-2
     returns-2
-    activate-if-requires
     announcement-reset-requires
+    mask-or-zero-requires
+    activate-if-requires
     returns-3)
