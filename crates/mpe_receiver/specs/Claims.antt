@@ -2,17 +2,23 @@
 use Prim.Native.Nat.{ℕ}
 use mathlib.Core.Path.{_≡_}
 use Rattle.ump.specs.Choice.{if_then_else_}
+use Rattle.ump.specs.Outcome.{given}
+use Rattle.parameters.specs.declared.MaybeEvent.{MaybeEvent}
+use Rattle.mpe_layout.specs.declared.MpeLayout.{MpeLayout}
 use Rattle.mpe_reset.specs.Reset.{named}
+use Rattle.mpe_event.specs.declared.MpeEvent.the-variants.{Layout}
 use Rattle.mpe_receiver.specs.declared.MpeReceiver.{MpeReceiver}
-use Rattle.mpe_receiver.specs.Receive.{restUpto}
+use Rattle.mpe_receiver.specs.Receive.{stored, receivedByFields, setReply, setState}
 use Rattle.mpe_receiver.specs.Read.{bendAt, pressureAt, brightnessAt}
 use Rattle.mpe_receiver.specs.WellFormed.{ReceiverFormed}
 
 -- "Every channel in the mask just returned reads bend 0x2000, pressure 0, brightness 64", and every other as before
-pub record Rested (r : MpeReceiver) (mask channel : ℕ) : Type 0 where
-  pub its-bend : bendAt (restUpto r mask 16) channel ≡ (if named mask channel then 0x2000 else bendAt r channel)
-  pub its-pressure : pressureAt (restUpto r mask 16) channel ≡ (if named mask channel then 0 else pressureAt r channel)
-  pub its-brightness : brightnessAt (restUpto r mask 16) channel ≡ (if named mask channel then 64 else brightnessAt r channel)
+pub record Rested (mask : ℕ) (before after : MpeReceiver) (channel : ℕ) : Type 0 where
+  pub its-bend : bendAt after channel ≡ (if named mask channel then 0x2000 else bendAt before channel)
+  pub its-pressure : pressureAt after channel ≡ (if named mask channel then 0 else pressureAt before channel)
+  pub its-brightness : brightnessAt after channel ≡ (if named mask channel then 64 else brightnessAt before channel)
 
-abbrev pub MaskRests : Type 0
-MaskRests = (r : MpeReceiver) (mask channel : ℕ) → ReceiverFormed r → Rested r mask channel
+-- the mask that a message is answered with, its control stored first; and the mask of a layout that is set
+pub record MaskRests : Type 0 where
+  pub of-message : (r : MpeReceiver) (e : MaybeEvent) (opcode source a b mask channel : ℕ) → ReceiverFormed r → receivedByFields r e opcode source a b .event ≡ Layout mask → Rested mask (stored r opcode source a b) (receivedByFields r e opcode source a b .receiver) channel
+  pub of-layout : (r : MpeReceiver) (l : MpeLayout) (mask channel : ℕ) → ReceiverFormed r → setReply r l ≡ given mask → Rested mask r (setState r l) channel

@@ -1,21 +1,24 @@
--- An activated zone reads its defaults, and the other zone as before.
+-- An activated zone reads its defaults, and the other zone as before; and so does each zone with members of a layout that is set.
 -- Assumes nothing.
-use Prim.Native.Nat.{ℕ}
+use Prim.Native.Nat.{ℕ, _<_}
 use mathlib.Core.Path.{_≡_, refl, sym, _∙_, subst}
 use mathlib.Core.Bool.{Bool, true, false}
 use mathlib.Core.List.{List}
 use native.Mathlib.Omega.{arith}
 use lib.ListN.{length-set}
-use borrow.Author.Tests.{lt-ltb}
-use Rattle.ump.proofs.Cases.{chosen}
+use lib.Dec.{ltb}
+use borrow.Author.Tests.{lt-ltb, ltb-true}
+use Rattle.ump.proofs.Cases.{by-test, chosen, passed}
 use Rattle.mpe_layout.specs.declared.MpeZone.{MpeZone}
 use Rattle.mpe_layout.specs.declared.MpeZone.the-variants.{Lower, Upper}
-use Rattle.mpe_layout.specs.Layout.{otherZone}
+use Rattle.mpe_layout.specs.declared.MpeLayout.{MpeLayout}
+use Rattle.mpe_layout.specs.Layout.{legal, otherZone, membersOf}
 use Rattle.mpe_pitch.specs.Pitch.{managerDefault, memberDefault}
 use Rattle.mpe_zones.specs.declared.Zones.{Zones}
-use Rattle.mpe_zones.specs.Zones.{withMono, monoOf, slotOf, sensitivityPut, sensitivityAt, zoneSensitivity, activated}
-use Rattle.mpe_zones.specs.Claims.{Activation, Activates}
+use Rattle.mpe_zones.specs.Zones.{withLayout, withMono, monoOf, slotOf, sensitivityPut, sensitivityAt, zoneSensitivity, activated, activatedIf, withZonesOf}
+use Rattle.mpe_zones.specs.Claims.{Activation, Defaults, Activates}
 use Rattle.mpe_zones.specs.WellFormed.{ZonesFormed}
+use Rattle.mpe_zones.proofs.WellFormed.{laid-formed, activated-if-formed}
 use Rattle.mpe_zones.proofs.Slots.{slot-fits, slot-even, halves-apart, zones-apart, put-same, put-other}
 
 -- a mode is set beside the sensitivities
@@ -65,8 +68,8 @@ unfolding activated
 layout-beside z Lower = refl
 layout-beside z Upper = refl
 
-pub activates : Activates
-activates z zone members w some =
+zone-activated : (z : Zones) (zone : MpeZone) (members : ℕ) → ZonesFormed z → 0 < members → Activation z zone (activatedIf members z zone)
+zone-activated z zone members w some =
     subst (Activation z zone) (sym (chosen (activated z zone) z (lt-ltb 0 members some)))
     (record {
       its-manager = activated-manager z zone w;
@@ -76,3 +79,37 @@ activates z zone members w some =
       other-mode = activated-other-mode z zone;
       same-layout = layout-beside z zone;
     })
+
+defaults-of : (z after : Zones) (zone : MpeZone) → Activation z zone after → Defaults after zone
+defaults-of z after zone a = record { its-manager = a .its-manager; its-members = a .its-members; its-mode = a .its-mode }
+
+-- the activation of a zone leaves the defaults of the other
+defaults-beside : (z : Zones) (zone : MpeZone) (members : ℕ) → ZonesFormed z → Defaults z (otherZone zone) → Defaults (activatedIf members z zone) (otherZone zone)
+defaults-beside z zone members w d =
+    by-test (ltb 0 members)
+    (λ t.
+    let a = zone-activated z zone members w (ltb-true 0 members t) in
+    record {
+      its-manager = a .other-sensitivities true ∙ d .its-manager;
+      its-members = a .other-sensitivities false ∙ d .its-members;
+      its-mode = a .other-mode ∙ d .its-mode;
+    })
+    (λ t. subst (λ x. Defaults x (otherZone zone)) (sym (passed (activated z zone) z t)) d)
+
+set-activated : (z : Zones) (l : MpeLayout) (zone : MpeZone) → ZonesFormed z → legal l ≡ true → 0 < membersOf l zone → Defaults (withZonesOf z l) zone
+set-activated z l Lower w h some =
+    let lower = activatedIf (l .lower) (withLayout z l) Lower in
+    let v = laid-formed z w l h in
+    defaults-beside lower Upper (l .upper) (activated-if-formed (l .lower) (withLayout z l) Lower v)
+    (defaults-of (withLayout z l) lower Lower (zone-activated (withLayout z l) Lower (l .lower) v some))
+set-activated z l Upper w h some =
+    let lower = activatedIf (l .lower) (withLayout z l) Lower in
+    defaults-of lower (withZonesOf z l) Upper
+    (zone-activated lower Upper (l .upper) (activated-if-formed (l .lower) (withLayout z l) Lower (laid-formed z w l h)) some)
+
+pub activates : Activates
+activates =
+    record {
+      of-zone = zone-activated;
+      of-layout = λ z l zone w h some. subst (λ x. Defaults x zone) (sym (chosen (withZonesOf z l) z h)) (set-activated z l zone w h some);
+    }

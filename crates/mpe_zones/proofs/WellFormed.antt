@@ -21,7 +21,7 @@ module _ (z : Zones) (w : ZonesFormed z) where
   sensitivities-formed : (l : List ℕ) → length l ≡ 8 → ZonesFormed (withSensitivities z l)
   sensitivities-formed l e = record { sensitivities = e; lawful = w .lawful }
 
-  laid-formed : (l : MpeLayout) → legal l ≡ true → ZonesFormed (withLayout z l)
+  pub laid-formed : (l : MpeLayout) → legal l ≡ true → ZonesFormed (withLayout z l)
   laid-formed l e = record { sensitivities = w .sensitivities; lawful = e }
 
   pub mono-formed : (zone : MpeZone) (m : Bool) → ZonesFormed (withMono z zone m)
@@ -32,7 +32,7 @@ activated-formed : (z : Zones) (zone : MpeZone) → ZonesFormed z → ZonesForme
 unfolding activated
 activated-formed z zone w = mono-formed _ (sensitivities-formed z w _ (simp length-set (w .sensitivities))) zone false
 
-activated-if-formed : (members : ℕ) (z : Zones) (zone : MpeZone) → ZonesFormed z → ZonesFormed (activatedIf members z zone)
+pub activated-if-formed : (members : ℕ) (z : Zones) (zone : MpeZone) → ZonesFormed z → ZonesFormed (activatedIf members z zone)
 activated-if-formed members z zone w = of-both ZonesFormed (ltb 0 members) (activated-formed z zone w) w
 
 pub laid-out-formed : (z : Zones) (l : MpeLayout) → ZonesFormed z → legal l ≡ true → ZonesFormed (withZonesOf z l)

@@ -91,7 +91,7 @@ abbrev pub withZonesOf : Zones → MpeLayout → Zones
 withZonesOf z l = activatedIf (l .upper) (activatedIf (l .lower) (withLayout z l) Lower) Upper
 
 -- an announcement with members 0 to 15 sets the layout and answers the channels that it resets, and the zone that it names is activated if it has
--- members; one with more is out of range (M1-100 2.2.1 to 2.2.3)
+-- members; one with more is out of range (M1-100 2.2.1 to 2.2.3), and so is any where the layout held is illegal
 abbrev pub withAnnounced : Zones → MpeZone → ℕ → Zones
 withAnnounced z zone members = activatedIf members (withLayout z (withMcm (z .layout) zone members)) zone
 

@@ -207,7 +207,7 @@ impl Zones {
         }
     }
 
-    // A zone announcement. More than 15 members are out of range.
+    // A zone announcement. More than 15 members are out of range, and so is one where the layout held is illegal.
     pub fn announce(self, zone: MpeZone, members: u8) -> ZonesLayoutSet
         ensures reply { λ r. ⌜ maskFound (r .reply) ≡ announcedReply self zone members ⌝ }
         ensures zones { λ r. ⌜ r .zones ≡ zonesAnnounced self zone members ⌝ }
