@@ -6,3 +6,4 @@ pub mod WellFormed
 pub mod Resets
 pub mod Range
 pub mod Bench
+pub mod Stored

@@ -1,5 +1,5 @@
 -- What the channels read after a change of layout (document 01, "The receiver").
-use Prim.Native.Nat.{ℕ}
+use Prim.Native.Nat.{ℕ, _+_, _*_, _^_, _<_}
 use mathlib.Core.Path.{_≡_}
 use Rattle.ump.specs.Choice.{if_then_else_}
 use Rattle.ump.specs.Outcome.{given}
@@ -22,3 +22,16 @@ pub record Rested (mask : ℕ) (before after : MpeReceiver) (channel : ℕ) : Ty
 pub record MaskRests : Type 0 where
   pub of-message : (r : MpeReceiver) (e : MaybeEvent) (opcode source a b mask channel : ℕ) → ReceiverFormed r → receivedByFields r e opcode source a b .event ≡ Layout mask → Rested mask (stored r opcode source a b) (receivedByFields r e opcode source a b .receiver) channel
   pub of-layout : (r : MpeReceiver) (l : MpeLayout) (mask channel : ℕ) → ReceiverFormed r → setReply r l ≡ given mask → Rested mask r (setState r l) channel
+
+-- the controls that a channel reads
+pub record Controls (r : MpeReceiver) (channel bend pressure brightness : ℕ) : Type 0 where
+  pub reads-bend : bendAt r channel ≡ bend
+  pub reads-pressure : pressureAt r channel ≡ pressure
+  pub reads-brightness : brightnessAt r channel ≡ brightness
+
+-- "Bend, pressure and brightness are stored first, whatever the role"; 121 puts bend to 0x2000 and pressure to 0, and spares brightness
+pub record ControlsStored : Type 0 where
+  pub of-bend : (r : MpeReceiver) (k a b : ℕ) → ReceiverFormed r → k < 16 → Controls (stored r 0xE k a b) k (b * 2 ^ 7 + a) (pressureAt r k) (brightnessAt r k)
+  pub of-pressure : (r : MpeReceiver) (k a b : ℕ) → ReceiverFormed r → k < 16 → Controls (stored r 0xD k a b) k (bendAt r k) a (brightnessAt r k)
+  pub of-brightness : (r : MpeReceiver) (k b : ℕ) → ReceiverFormed r → k < 16 → Controls (stored r 0xB k 74 b) k (bendAt r k) (pressureAt r k) b
+  pub of-reset : (r : MpeReceiver) (k b : ℕ) → ReceiverFormed r → k < 16 → Controls (stored r 0xB k 121 b) k 0x2000 0 (brightnessAt r k)

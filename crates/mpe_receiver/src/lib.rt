@@ -9,7 +9,7 @@ ghost use Rattle.mpe_event.specs.Update.{mpeReplyRead, resetIn};
 ghost use Rattle.mpe_receiver.specs.State.{newReceiver, zonesOf, withZones};
 ghost use Rattle.mpe_receiver.specs.Receive.{stored, restUpto, receiverReply, receiverAfter, setReply, setState, settled};
 ghost use Rattle.mpe_receiver.specs.Read.{modeOf, sensitivityOf, bendAt, pressureAt, brightnessAt, managerOffset, memberOffset, offsetByRole, offsetOf, offsetRead};
-ghost use Rattle.mpe_receiver.specs.Claims.{MaskRests};
+ghost use Rattle.mpe_receiver.specs.Claims.{ControlsStored, MaskRests};
 ghost use Rattle.mpe_receiver.specs.Bench.{TableHolds};
 use mpe_event::MpeEvent;
 use mpe_event::MpeReply;
@@ -71,6 +71,7 @@ impl MpeReceiver {
     pub fn new() -> MpeReceiver
         ensures is { λ r. ⌜ r ≡ newReceiver ⌝ }
         ensures table { λ _. ⌜ TableHolds ⌝ }
+        ensures controls { λ _. ⌜ ControlsStored ⌝ }
     {
         let none = MpeLayout::NONE;
         MpeReceiver {
