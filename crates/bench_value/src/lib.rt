@@ -3,8 +3,8 @@ ghost use mathlib.Core.Path.{_≡_};
 ghost use Rattle.receiving_end.specs.End.{newEnd};
 ghost use Rattle.bench_value.specs.Runs.{repliesSum};
 use bench_lent::reply_code;
+use byte_call::step;
 use receiving_end::end::End;
-use receiving_end::end::step;
 
 // A new end receives the bytes by value: the sum of its replies.
 #[no_mangle]

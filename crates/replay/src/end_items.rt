@@ -1,4 +1,6 @@
 // Items 00 to 08: the receiving end.
+use byte_call::byte;
+use byte_call::step;
 use crate::arguments::Item;
 use crate::line::Line;
 use crate::parameter_items;
@@ -9,8 +11,6 @@ use mpe_layout::MpeZone;
 use receiving_end::end::End;
 use receiving_end::end::Reply;
 use receiving_end::end::Stepped;
-use receiving_end::end::byte;
-use receiving_end::end::step;
 
 // The end after an item, and the answer.
 pub(crate) struct EndAnswered {

@@ -1,9 +1,9 @@
 // Items 70 to 72: restatements.
+use byte_call::step_all;
 use crate::arguments;
 use crate::out::Out;
 use mpe_layout::MpeLayout;
 use receiving_end::end::End;
-use receiving_end::end::step_all;
 use restatement::restatement_bytes;
 use restatement::restatement_words;
 use settings::Settings;

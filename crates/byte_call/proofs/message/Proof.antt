@@ -1,8 +1,8 @@
--- `receiving_end::end::message` meets its contract.
+-- `byte_call::message` meets its contract.
 -- Assumes nothing.
 use borrow.Author.Needs.{needs}
-use Rattle.receiving_end.proofs.end.message.Statement.{statement}
-use Rattle.receiving_end.proofs.end.message.Tie as tie
+use Rattle.byte_call.proofs.message.Statement.{statement}
+use Rattle.byte_call.proofs.message.Tie as tie
 
 channel-requires : tie.Need-channel-requires
 channel-requires c κs = search needs

@@ -1,10 +1,10 @@
--- `receiving_end::end::step` meets its contract.
+-- `byte_call::step` meets its contract.
 -- Assumes nothing.
 use borrow.Author.Needs.{needs}
-use Rattle.receiving_end.proofs.end.step.Statement.{statement}
-use Rattle.receiving_end.proofs.end.step.Tie as tie
+use Rattle.byte_call.proofs.step.Statement.{statement}
+use Rattle.byte_call.proofs.step.Tie as tie
 use Rattle.receiving_end.specs.End.{stepOf}
 use Rattle.receiving_end.specs.Lists.{replied}
 use mathlib.Core.Path.{_≡_, ap, sym}
 
 step-requires : tie.Need-step-requires

@@ -1,8 +1,8 @@
--- `receiving_end::end::answer` meets its contract.
+-- `byte_call::answer` meets its contract.
 -- Assumes nothing.
 use borrow.Author.Needs.{needs}
-use Rattle.receiving_end.proofs.end.answer.Statement.{statement}
-use Rattle.receiving_end.proofs.end.answer.Tie as tie
+use Rattle.byte_call.proofs.answer.Statement.{statement}
+use Rattle.byte_call.proofs.answer.Tie as tie
 
 enum-told : tie.Need-enum-told
 enum-told c = search needs

@@ -1,15 +1,15 @@
--- `receiving_end::end::step_all` meets its contract.
+-- `byte_call::step_all` meets its contract.
 -- Assumes nothing.
-use Rattle.receiving_end.proofs.end.step_all.Statement.{statement}
-use Rattle.receiving_end.proofs.end.step_all.Tie as tie
+use Rattle.byte_call.proofs.step_all.Statement.{statement}
+use Rattle.byte_call.proofs.step_all.Tie as tie
 use borrow.Author.Needs.{needs}
 use Prim.Native.Nat.{_≤_, _-_}
 use mathlib.Core.Path.{_≡_, refl, ap, _∙_}
 use native.Mathlib.Omega.{arith}
 use lib.ListN.{length, take}
 use lib.Seq.{take-all}
 use Rattle.receiving_end.specs.Lists.{afterBytes}
 use Rattle.receiving_end.proofs.Bytes.{one-byte-more, bytes-are-calls}
 
 abbrev Inv-loop : tie.InvT-loop
 Inv-loop bytes e₀ i₀ e i = (i ≤ length bytes) × (e ≡ afterBytes e₀ (take i bytes))

@@ -1,4 +1,4 @@
--- `receiving_end::end::byte` meets its contract: a walk of its MIR, by hand. The borrow is opened, the whole struct is copied out and passed to `step`; what `step` returns is taken apart into its two fields, the one stored over the struct behind the reference, the other returned; and the borrow is closed at the new record.
+-- `byte_call::byte` meets its contract: a walk of its MIR, by hand. The borrow is opened, the whole struct is copied out and passed to `step`; what `step` returns is taken apart into its two fields, the one stored over the struct behind the reference, the other returned; and the borrow is closed at the new record.
 -- No field of the end is named: the walk knows of an `End` and of a `Reply` only that each is plain data with its laws. All that it knows of `step` is that it meets its contract.
 -- Assumes nothing.
 use mathlib.Core.Path.{_≡_, refl, ap}
@@ -40,25 +40,25 @@ use denote.Triple.Spec.{Meets, tripleOf}
 use denote.Triple.Table.{entered, cited}
 use denote.Triple.Walked.{says, Stays, stay-ref, stay-none, walkOf, AllGo, goes-none, goes-ref, Walks, ends-at, walked, walk-meets}
 use denote.Exit.{yes}
 use Rattle.receiving_end.specs.End.{stepEnd, stepReply}
 use Rattle.receiving_end.specs.Lists.{byteByValue, replied, answer, next}
 use Rattle.receiving_end.specs.declared.end.End.{End}
 use Rattle.receiving_end.specs.declared.end.Reply.{Reply}
 use Rattle.receiving_end.specs.declared.end.Stepped.{Stepped}
 use Rattle.receiving_end.proofs.end.End as T
 use Rattle.receiving_end.proofs.end.End.Laws as T′
 use Rattle.receiving_end.proofs.end.Reply as R
 use Rattle.receiving_end.proofs.end.Reply.Laws as R′
 use Rattle.receiving_end.proofs.end.Stepped as S
 use Rattle.receiving_end.proofs.end.Stepped.Laws as S′
-use Rattle.receiving_end.proofs.end.step as step
-use Rattle.receiving_end.proofs.end.step.Symbol as step-def
-use Rattle.receiving_end.proofs.end.step.Symbol.{name as #end·step}
-use Rattle.receiving_end.proofs.end.step.Met as step-thm
-use Rattle.receiving_end.proofs.end.byte.Key.{name as #end·byte}
-use Rattle.receiving_end.proofs.end.byte as byte
-use Rattle.receiving_end.proofs.end.byte.Statement as stated
-use Rattle.receiving_end.proofs.end.byte.Code as code
+use Rattle.byte_call.proofs.step as step
+use Rattle.byte_call.proofs.step.Symbol as step-def
+use Rattle.byte_call.proofs.step.Symbol.{name as #step}
+use Rattle.byte_call.proofs.step.Met as step-thm
+use Rattle.byte_call.proofs.byte.Key.{name as #byte}
+use Rattle.byte_call.proofs.byte as byte
+use Rattle.byte_call.proofs.byte.Statement as stated
+use Rattle.byte_call.proofs.byte.Code as code
 
 abbrev stayed : Stays (byte.ended .signature .params) (byte.ended .kept)
 stayed = (stay-ref (0 ∷ []) tt (plain (λ _. T.the-row)), (stay-none (λ _. u8) yes, tt))
@@ -116,7 +116,7 @@ module _ {M : Type 1} (𝓤 : URA M) (H : Heap 𝓤) (A : Atoms 𝓤) (W : Given
   goes-step : ent 𝓤 (sep 𝓤 (sem 𝓤 H A ftrue) (sem 𝓤 H A (owns (T.the-row ∷ u8 ∷ []) (h, (n, tt)) (end-val h ∷ [], (vint w8 n ∷ [], tt))))) (Step 𝓤 H A at-mem run .pre to-step)
   goes-step = qed W (‵ ftrue ∷ ‵ (owns (T.the-row ∷ u8 ∷ []) (h, (n, tt)) (end-val h ∷ [], (vint w8 n ∷ [], tt))) ∷ []) ∵ join ! $ frame ! $ done !
 
-  module _ (C : Calls 𝓤 H) (Λ : Loops 𝓤 H) (fm : FmC 𝓤 H (W .laws) C) (known : Triple 𝓤 (C #end·step) (Step 𝓤 H A at-mem run)) where
+  module _ (C : Calls 𝓤 H) (Λ : Loops 𝓤 H) (fm : FmC 𝓤 H (W .laws) C) (known : Triple 𝓤 (C #step) (Step 𝓤 H A at-mem run)) where
     walk : ent 𝓤 (onEntry 𝓤 H A byte.signature (κ, tt) (q, tt) x at) (WpFn 𝓤 H C Λ code.function (vptr b o ∷ vint w8 n ∷ []) Post)
     walk =
         qed W ((‵ (flft κ q) ⊛ ‵ ftrue) ∷ ‵ (owns (MutRef (named 0) κ T.the-row ∷ u8 ∷ []) x at) ∷ []) ∵ split ! $ move ! (2 ∷ []) $ fsplit ! $ fsplit3 ! $ drop ! $ move ! (0 ∷ 1 ∷ 3 ∷ []) $
@@ -143,14 +143,14 @@ module _ {M : Type 1} (𝓤 : URA M) (H : Heap 𝓤) (A : Atoms 𝓤) (W : Given
         keep ! (0 ∷ 1 ∷ 2 ∷ []) $ by ! (exits s right (reply-is s _ is)))))))))))))
 
 module _ {M : Type 1} (𝓤 : URA M) (H : Heap 𝓤) (A : Atoms 𝓤) (W : Given 𝓤 H A) (at-mem : Memory → SProp 𝓤) (run : Routine → Fun 𝓤) where
-  byte-walks : (C : Calls 𝓤 H) (Λ : Loops 𝓤 H) → FmC 𝓤 H (W .laws) C → Triple 𝓤 (C #end·step) (Step 𝓤 H A at-mem run) → Walks 𝓤 H A byte.ended stayed (WpFn 𝓤 H C Λ code.function) (byte.clauses 𝓤 H A at-mem run)
+  byte-walks : (C : Calls 𝓤 H) (Λ : Loops 𝓤 H) → FmC 𝓤 H (W .laws) C → Triple 𝓤 (C #step) (Step 𝓤 H A at-mem run) → Walks 𝓤 H A byte.ended stayed (WpFn 𝓤 H C Λ code.function) (byte.clauses 𝓤 H A at-mem run)
   byte-walks C Λ fm known = walked 𝓤 H A byte.ended stayed (byte.clauses 𝓤 H A at-mem run) (WpFn 𝓤 H C Λ code.function) (λ κs. (ptr-vals, (uint-vals w8, tt))) (λ κs. (mut-tells (named 0) (κs .0) T.the-row, (uint-tells w8, tt)))
       (λ κs qs bounds a _ are. via 𝓤 _ (fst∗ 𝓤 _ (emp 𝓤)) (walk 𝓤 H A W at-mem run (κs .0) (qs .0) (a .0 .ptr .0) (a .0 .ptr .1) (a .0 .name) (a .0 .now) (a .1 .0) (are .1 .0 .1) C Λ fm known))
 
   goes : AllGo 𝓤 H A W 1 (byte.signature .params) (byte.ended .kept) stayed
   goes = (goes-ref 𝓤 H A W 1 0 tt (plain (λ _. T.the-row)), (goes-none 𝓤 H A W 1 (λ _. u8) yes (λ κs x f. refl), tt))
 
-byte-meets : {M : Type 1} (𝓤 : URA M) (H : Heap 𝓤) (A : Atoms 𝓤) → Given 𝓤 H A → (at-mem : Memory → SProp 𝓤) (run : Routine → Fun 𝓤) (𝓣 : Tables 𝓤 H) → Triple 𝓤 (𝓣 .C #end·step) (Step 𝓤 H A at-mem run)
+byte-meets : {M : Type 1} (𝓤 : URA M) (H : Heap 𝓤) (A : Atoms 𝓤) → Given 𝓤 H A → (at-mem : Memory → SProp 𝓤) (run : Routine → Fun 𝓤) (𝓣 : Tables 𝓤 H) → Triple 𝓤 (𝓣 .C #step) (Step 𝓤 H A at-mem run)
     → Meets 𝓤 H A byte.signature (WpFn 𝓤 H (𝓣 .C) (𝓣 .Λ) code.function) (byte.spec 𝓤 H A at-mem run)
 byte-meets 𝓤 H A W at-mem run 𝓣 known = walk-meets 𝓤 H A byte.ended stayed W (goes 𝓤 H A W at-mem run) (byte.clauses 𝓤 H A at-mem run) (WpFn 𝓤 H (𝓣 .C) (𝓣 .Λ) code.function) (WpFn-mono 𝓤 H (W .laws) 𝓣 code.function) (byte-walks 𝓤 H A W at-mem run (𝓣 .C) (𝓣 .Λ) (fmOf 𝓤 H (W .laws) 𝓣) known)
 
@@ -158,6 +158,6 @@ pub byte-spec : {M : Type 1} → stated.statement M
 unfolding code.routine tablesOf
 byte-spec 𝓤 H 𝓜 𝓖 𝓡 =
     entered 𝓤 H (tripleOf 𝓤 H (𝓖 .A) byte.signature (byte.spec 𝓤 H (𝓖 .A) (𝓜 .mem) (𝓡 .run)))
-    (tables 𝓤 H 𝓜 𝓡 code.env .C) (tables 𝓤 H 𝓜 𝓡 code.env .Λ) #end·byte code.function (code.unfolded 𝓤 H 𝓜 𝓡)
+    (tables 𝓤 H 𝓜 𝓡 code.env .C) (tables 𝓤 H 𝓜 𝓡 code.env .Λ) #byte code.function (code.unfolded 𝓤 H 𝓜 𝓡)
     (byte-meets 𝓤 H (𝓖 .A) (givenOf 𝓤 H 𝓜 𝓖) (𝓜 .mem) (𝓡 .run) (tablesOf 𝓤 H 𝓜 (tables 𝓤 H 𝓜 𝓡 code.env))
-    (cited 𝓤 H (Step 𝓤 H (𝓖 .A) (𝓜 .mem) (𝓡 .run)) 𝓜 𝓡 code.env #end·step step-def.routine code.calls-receiving-end·end·step (step-thm.met 𝓤 H 𝓜 𝓖 𝓡)))
+    (cited 𝓤 H (Step 𝓤 H (𝓖 .A) (𝓜 .mem) (𝓡 .run)) 𝓜 𝓡 code.env #step step-def.routine code.calls-byte-call·step (step-thm.met 𝓤 H 𝓜 𝓖 𝓡)))
