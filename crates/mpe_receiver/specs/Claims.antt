@@ -1,8 +1,10 @@
--- What the channels read after a change of layout (document 01, "The receiver").
+-- What the channels read after a change of layout, and after a message (document 01, "The receiver").
 use Prim.Native.Nat.{ℕ, _+_, _*_, _^_, _<_}
 use mathlib.Core.Path.{_≡_}
+use mathlib.Core.Logic.{_≢_}
 use Rattle.ump.specs.Choice.{if_then_else_}
 use Rattle.ump.specs.Outcome.{given}
+use Rattle.ump.specs.Packet.{packetValue}
 use Rattle.parameters.specs.declared.MaybeEvent.{MaybeEvent}
 use Rattle.mpe_layout.specs.declared.MpeLayout.{MpeLayout}
 use Rattle.mpe_reset.specs.Reset.{named}
@@ -29,9 +31,13 @@ pub record Controls (r : MpeReceiver) (channel bend pressure brightness : ℕ) :
   pub reads-pressure : pressureAt r channel ≡ pressure
   pub reads-brightness : brightnessAt r channel ≡ brightness
 
--- "Bend, pressure and brightness are stored first, whatever the role"; 121 puts bend to 0x2000 and pressure to 0, and spares brightness
+-- "first stores bend, pressure or brightness (controller 74) for the channel, whatever its role. Controller 121 puts bend to 0x2000 and pressure to 0 and
+-- spares brightness"; every other message stores nothing, and no message anything on another channel
 pub record ControlsStored : Type 0 where
   pub of-bend : (r : MpeReceiver) (k a b : ℕ) → ReceiverFormed r → k < 16 → Controls (stored r 0xE k a b) k (b * 2 ^ 7 + a) (pressureAt r k) (brightnessAt r k)
   pub of-pressure : (r : MpeReceiver) (k a b : ℕ) → ReceiverFormed r → k < 16 → Controls (stored r 0xD k a b) k (bendAt r k) a (brightnessAt r k)
   pub of-brightness : (r : MpeReceiver) (k b : ℕ) → ReceiverFormed r → k < 16 → Controls (stored r 0xB k 74 b) k (bendAt r k) (pressureAt r k) b
   pub of-reset : (r : MpeReceiver) (k b : ℕ) → ReceiverFormed r → k < 16 → Controls (stored r 0xB k 121 b) k 0x2000 0 (brightnessAt r k)
+  pub of-other-controllers : (r : MpeReceiver) (k a b : ℕ) → a ≢ 74 → a ≢ 121 → stored r 0xB k a b ≡ r
+  pub of-other-messages : (r : MpeReceiver) (opcode k a b : ℕ) → opcode ≢ 0xE → opcode ≢ 0xD → opcode ≢ 0xB → stored r opcode k a b ≡ r
+  pub on-other-channels : (r : MpeReceiver) (opcode k a b channel : ℕ) → packetValue channel ≢ k → Controls (stored r opcode k a b) channel (bendAt r channel) (pressureAt r channel) (brightnessAt r channel)
