@@ -1,18 +1,15 @@
--- A mask made of a test at each bit: one bit more, and what a bit of it is.
+-- A mask made of a test at each bit: its size, and what a bit of it is.
 -- Assumes nothing.
 use mathlib.Core.Path.{_≡_, refl, _∙_, sym, subst}
 use mathlib.Core.Bool.{Bool, true, false}
 use mathlib.Core.Logic.{⊎-elim}
 use Prim.Native.Nat.{ℕ, zero, suc, _+_, _*_, _-_, _%_, _^_, _<_}
-use native.Mathlib.Nat.{pow-suc, one-mul, zero-mul, zero-add, mul-assoc, mul-add-div-right, mul-add-mod-self-right, eq-or-lt-of-le, le-of-suc-le-suc, not-suc-le-zero}
-use native.Mathlib.Numerals.{add-one}
+use native.Mathlib.Nat.{pow-suc, one-mul, zero-mul, mul-assoc, mul-add-div-right, mul-add-mod-self-right, eq-or-lt-of-le, le-of-suc-le-suc, not-suc-le-zero}
 use native.Mathlib.Omega.{arith}
 use lib.Dec.{lit<}
-use lib.Bits.{bitOr}
-use lib.Pow.{pow-pos, pow-lt, pow-add}
+use lib.Pow.{pow-pos, pow-add}
 use lib.Arith.{digits-div}
 use Rattle.ump.specs.Field.{field, bitFor, maskTo}
-use Rattle.ump.proofs.Cut.{laid}
 
 below : (b : Bool) (m p : ℕ) → m < p → bitFor b * p + m < p * 2
 below true m p h = rw one-mul (omega arith)
@@ -22,15 +19,6 @@ pub mask-lt : (f : ℕ → Bool) (n : ℕ) → maskTo f n < 2 ^ n
 unfolding maskTo
 mask-lt f zero = lit< tt
 mask-lt f (suc n) = rw pow-suc (below (f n) (maskTo f n) (2 ^ n) (mask-lt f n))
-
--- bit i is set above the bits below it
-pub mask-set : (f : ℕ → Bool) (i : ℕ) → i < 16 → f i ≡ true → bitOr (maskTo f i) (1 * 2 ^ i % 2 ^ 16) ≡ maskTo f (i + 1)
-unfolding maskTo
-mask-set f i h e = rw (add-one, e) (laid 1 i (maskTo f i) 16 (mask-lt f i) (rw one-mul (pow-lt h)))
-
-pub mask-clear : (f : ℕ → Bool) (i : ℕ) → f i ≡ false → maskTo f i ≡ maskTo f (i + 1)
-unfolding maskTo
-mask-clear f i e = rw (add-one, e, zero-mul, zero-add)
 
 bit-mod : (b : Bool) → bitFor b % 2 ^ 1 ≡ bitFor b
 bit-mod true = refl
