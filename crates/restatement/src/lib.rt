@@ -10,16 +10,18 @@ ghost use Rattle.ump.specs.Word.{bendWord, oneDataWord, controlChange, messageM
 ghost use Rattle.ump.specs.Packet.{packetValue};
 ghost use Rattle.mpe_layout.specs.Layout.{legal};
 ghost use Rattle.zone_sender.specs.Zone.{filled, writtenRead};
-ghost use Rattle.settings.specs.Settings.{zoneOf, membersIn, shownSensitivity, shownMode, zoneAllowed, channelAllowed, andChannel, channelsAllowed, allowed};
-ghost use Rattle.settings.specs.Messages.{resets, announcements, sensitivities, modes, deselections, controls, messages, bytesOf, bytes, restatement, oneIfAny, messageCount, byteCount, restatedReply, CountsHold, wordsIn, countIn};
+ghost use Rattle.settings.specs.Settings.{zoneOf, membersIn, shownSensitivity, shownMode, allowed};
+ghost use Rattle.settings.specs.Messages.{resets, announcements, sensitivities, modes, deselections, controls, messages, bytesOf, bytes, restatement, messageCount, byteCount, restatedReply, CountsHold, wordsIn, countIn};
 ghost use Rattle.settings.specs.Demand.{Demand};
 ghost use Rattle.settings.specs.Witnesses.{Met};
-use mpe_layout::MadeLayout;
 use mpe_layout::MpeLayout;
 use mpe_layout::MpeZone;
 use mpe_pitch::MpeSensitivity;
 use mpe_sender::mcm_messages;
 use mpe_sender::mode_message;
+use restatement_reply::byte_count;
+use restatement_reply::message_count;
+use restatement_reply::restated_reply;
 use settings::Settings;
 use settings::ZoneSettings;
 use ump::channel_voice1::Message;
@@ -38,85 +40,6 @@ use ump::packet::Channel;
 use ump::packet::Group;
 use zone_sender::Written;
 use zone_sender::zone_sensitivity_messages;
-
-// The fields of a zone with so many members are inside their limits, or are not read.
-fn zone_allowed(members: u8, zone: ZoneSettings) -> bool
-    ensures { λ r. ⌜ r ≡ zoneAllowed members zone ⌝ }
-{
-    if members == 0 {
-        return true;
-    }
-    if 96 < zone.manager {
-        return false;
-    }
-    if 96 < zone.member {
-        return false;
-    }
-    if zone.mode == 3 {
-        return true;
-    }
-    zone.mode == 4
-}
-
-// The fields of a channel are inside their limits.
-fn channel_allowed(bend: u16, pressure: u8, brightness: u8) -> bool
-    ensures { λ r. ⌜ r ≡ channelAllowed bend pressure brightness ⌝ }
-{
-    if 0x3FFF < bend {
-        return false;
-    }
-    if 127 < pressure {
-        return false;
-    }
-    if 127 < brightness {
-        return false;
-    }
-    true
-}
-
-// So far all is allowed, and this channel is too.
-fn and_channel(so_far: bool, bend: u16, pressure: u8, brightness: u8) -> bool
-    ensures { λ r. ⌜ r ≡ andChannel «so_far» bend pressure brightness ⌝ }
-{
-    if so_far {
-        return channel_allowed(bend, pressure, brightness);
-    }
-    false
-}
-
-fn channels_allowed(settings: Settings) -> bool
-    ensures { λ r. ⌜ r ≡ channelsAllowed settings 16 ⌝ }
-{
-    let mut all = true;
-    let mut k: usize = 0;
-    while k < 16 {
-        all = and_channel(
-            all,
-            settings.pitch_bend[k],
-            settings.pressure[k],
-            settings.brightness[k],
-        );
-        k += 1;
-    }
-    all
-}
-
-// The layout is legal, and every field that is read is inside its limits.
-fn is_allowed(settings: Settings) -> bool
-    ensures { λ r. ⌜ r ≡ allowed settings ⌝ }
-{
-    let layout = settings.layout;
-    let MadeLayout::Made(made) = MpeLayout::new(layout.lower, layout.upper) else {
-        return false;
-    };
-    if !zone_allowed(made.lower, settings.lower) {
-        return false;
-    }
-    if !zone_allowed(made.upper, settings.upper) {
-        return false;
-    }
-    channels_allowed(settings)
-}
 
 // Puts one message at a place, where there is one, and gives the place after it.
 fn put_one(out: &mut [u32], at: usize, message: Message) -> usize
@@ -337,45 +260,6 @@ fn write_messages(settings: Settings, out: &mut [u32])
     let d = write_mode(out, c, settings, MpeZone::Upper);
     write_deselections(out, d);
     write_controls(out, d + 32, settings);
-}
-
-// How many messages there are.
-fn one_if_any(members: u8) -> usize
-    ensures { λ r. ⌜ r ≡ oneIfAny members ⌝ }
-{
-    if members == 0 {
-        return 0;
-    }
-    1
-}
-
-fn message_count(layout: MpeLayout) -> usize
-    ensures { λ r. ⌜ r ≡ messageCount layout ⌝ }
-{
-    let zones = one_if_any(layout.lower) + one_if_any(layout.upper);
-    let members = layout.lower as usize + layout.upper as usize;
-    108 + 4 * zones + 3 * members
-}
-
-// How many bytes: three a message, less one for each channel's pressure.
-fn byte_count(layout: MpeLayout) -> usize
-    ensures { λ r. ⌜ r ≡ byteCount layout ⌝ }
-{
-    3 * message_count(layout) - 16
-}
-
-// What a writer answers that needs so many elements: settings outside their limits are out of range; then a short buffer is too small.
-fn restated_reply(settings: Settings, needed: usize, got: usize) -> Written
-    ensures { λ r. ⌜ writtenRead r ≡ restatedReply settings needed got ⌝ }
-{
-    let allowed = is_allowed(settings);
-    if !allowed {
-        return Written::OutOfRange;
-    }
-    if got < needed {
-        return Written::TooSmall { needed, got };
-    }
-    Written::Count(needed)
 }
 
 // Writes the messages that bring any end to these settings, as words at the front of `out`. What `counts` says is that the

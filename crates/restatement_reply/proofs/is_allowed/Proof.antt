@@ -1,4 +1,4 @@
--- `restatement::is_allowed` meets its contract: each test in its turn.
+-- `restatement_reply::is_allowed` meets its contract: each test in its turn.
 -- Assumes nothing.
 use mathlib.Core.Path.{_≡_, sym, ap, _∙_}
 use mathlib.Core.Bool.{true, false}
@@ -7,8 +7,8 @@ use Rattle.mpe_layout.specs.Layout.{layoutMade}
 use Rattle.settings.specs.Settings.{zoneAllowed, allowed}
 use Rattle.settings.proofs.Allowed.{made-legal, made-none}
 use borrow.Author.Needs.{needs}
-use Rattle.restatement.proofs.is_allowed.Statement.{statement}
-use Rattle.restatement.proofs.is_allowed.Tie as tie
+use Rattle.restatement_reply.proofs.is_allowed.Statement.{statement}
+use Rattle.restatement_reply.proofs.is_allowed.Tie as tie
 
 new-requires : tie.Need-new-requires
 new-requires c κs = search needs

@@ -1,4 +1,4 @@
--- `restatement::channels_allowed` meets its contract: after k turns the channels below k are tested.
+-- `restatement_reply::channels_allowed` meets its contract: after k turns the channels below k are tested.
 -- Assumes nothing.
 use Prim.Native.Nat.{_-_, _≤_}
 use mathlib.Core.Path.{_≡_, refl, ap, _∙_}
@@ -6,8 +6,8 @@ use native.Mathlib.Numerals.{add-one}
 use Rattle.settings.specs.Settings.{channelsAllowed}
 use borrow.Author.Needs.{needs}
 use native.Mathlib.Omega.{arith}
-use Rattle.restatement.proofs.channels_allowed.Statement.{statement}
-use Rattle.restatement.proofs.channels_allowed.Tie as tie
+use Rattle.restatement_reply.proofs.channels_allowed.Statement.{statement}
+use Rattle.restatement_reply.proofs.channels_allowed.Tie as tie
 
 abbrev Inv-loop : tie.InvT-loop
 Inv-loop settings all₀ k₀ all k = (k ≤ 16) × (all ≡ channelsAllowed settings k)

@@ -1,9 +1,9 @@
--- `restatement::channel_allowed` meets its contract: each test in its turn.
+-- `restatement_reply::channel_allowed` meets its contract: each test in its turn.
 -- Assumes nothing.
 use Rattle.settings.specs.Settings.{channelAllowed}
 use Rattle.ump.proofs.Auto.{auto}
-use Rattle.restatement.proofs.channel_allowed.Statement.{statement}
-use Rattle.restatement.proofs.channel_allowed.Tie as tie
+use Rattle.restatement_reply.proofs.channel_allowed.Statement.{statement}
+use Rattle.restatement_reply.proofs.channel_allowed.Tie as tie
 
 returns : tie.Need-returns
 unfolding channelAllowed

@@ -1,12 +1,12 @@
--- `restatement::message_count` meets its contract: the sums as they are.
+-- `restatement_reply::message_count` meets its contract: the sums as they are.
 -- Assumes nothing.
 use Rattle.settings.specs.Messages.{messageCount}
 use Rattle.settings.proofs.Counts.{one-le}
 use borrow.Author.Needs.{needs}
 use Rattle.ump.proofs.Auto.{auto}
 use native.Mathlib.Omega.{arith}
-use Rattle.restatement.proofs.message_count.Statement.{statement}
-use Rattle.restatement.proofs.message_count.Tie as tie
+use Rattle.restatement_reply.proofs.message_count.Statement.{statement}
+use Rattle.restatement_reply.proofs.message_count.Tie as tie
 
 one-if-any-requires : tie.Need-one-if-any-requires
 one-if-any-requires c κs = search needs

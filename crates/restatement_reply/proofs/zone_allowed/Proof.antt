@@ -1,9 +1,9 @@
--- `restatement::zone_allowed` meets its contract: each test in its turn.
+-- `restatement_reply::zone_allowed` meets its contract: each test in its turn.
 -- Assumes nothing.
 use Rattle.settings.specs.Settings.{zoneAllowed}
 use Rattle.ump.proofs.Auto.{auto}
-use Rattle.restatement.proofs.zone_allowed.Statement.{statement}
-use Rattle.restatement.proofs.zone_allowed.Tie as tie
+use Rattle.restatement_reply.proofs.zone_allowed.Statement.{statement}
+use Rattle.restatement_reply.proofs.zone_allowed.Tie as tie
 
 returns : tie.Need-returns
 unfolding zoneAllowed

@@ -1,12 +1,12 @@
--- `restatement::byte_count` meets its contract.
+-- `restatement_reply::byte_count` meets its contract.
 -- Assumes nothing.
 use Rattle.settings.specs.Messages.{messageCount, byteCount}
 use Rattle.settings.proofs.Counts.{one-le}
 use borrow.Author.Needs.{needs}
 use Rattle.ump.proofs.Auto.{auto}
 use native.Mathlib.Omega.{arith}
-use Rattle.restatement.proofs.byte_count.Statement.{statement}
-use Rattle.restatement.proofs.byte_count.Tie as tie
+use Rattle.restatement_reply.proofs.byte_count.Statement.{statement}
+use Rattle.restatement_reply.proofs.byte_count.Tie as tie
 
 message-count-requires : tie.Need-message-count-requires
 message-count-requires c κs = search needs

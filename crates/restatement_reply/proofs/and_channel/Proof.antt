@@ -1,8 +1,8 @@
--- `restatement::and_channel` meets its contract: false so far stays false.
+-- `restatement_reply::and_channel` meets its contract: false so far stays false.
 -- Assumes nothing.
 use borrow.Author.Needs.{needs}
-use Rattle.restatement.proofs.and_channel.Statement.{statement}
-use Rattle.restatement.proofs.and_channel.Tie as tie
+use Rattle.restatement_reply.proofs.and_channel.Statement.{statement}
+use Rattle.restatement_reply.proofs.and_channel.Tie as tie
 
 channel-allowed-requires : tie.Need-channel-allowed-requires
 channel-allowed-requires c κs = search needs

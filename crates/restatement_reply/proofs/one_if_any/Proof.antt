@@ -1,8 +1,8 @@
--- `restatement::one_if_any` meets its contract.
+-- `restatement_reply::one_if_any` meets its contract.
 -- Assumes nothing.
 use Rattle.ump.proofs.Auto.{auto}
-use Rattle.restatement.proofs.one_if_any.Statement.{statement}
-use Rattle.restatement.proofs.one_if_any.Tie as tie
+use Rattle.restatement_reply.proofs.one_if_any.Statement.{statement}
+use Rattle.restatement_reply.proofs.one_if_any.Tie as tie
 
 returns : tie.Need-returns
 returns c = search auto
