@@ -1,10 +1,10 @@
 // Items 00 to 08: the receiving end.
-use byte_call::byte;
-use byte_call::step;
 use crate::arguments::Item;
 use crate::line::Line;
 use crate::parameter_items;
 use crate::receiver_items;
+use byte_call::byte;
+use byte_call::step;
 use lent_end::byte_of;
 use mpe_layout::MpeLayout;
 use mpe_layout::MpeZone;

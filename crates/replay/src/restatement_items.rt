@@ -1,7 +1,7 @@
 // Items 70 to 72: restatements.
-use byte_call::step_all;
 use crate::arguments;
 use crate::out::Out;
+use byte_call::step_all;
 use mpe_layout::MpeLayout;
 use receiving_end::end::End;
 use restatement::restatement_bytes;
