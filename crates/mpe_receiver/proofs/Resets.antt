@@ -13,6 +13,7 @@ use lib.Dec.{lit<}
 use Rattle.ump.specs.Choice.{if_then_else_}
 use Rattle.ump.specs.Outcome.{Outcome, given, declined, outOfRange}
 use Rattle.ump.specs.Packet.{packetValue}
+use Rattle.ump.specs.Word.{opcodeOf, channelOf, firstOf, secondOf, wordForm}
 use Rattle.ump.proofs.Cases.{by-test, of-both, chosen, passed}
 use Rattle.parameters.specs.declared.MaybeEvent.{MaybeEvent}
 use Rattle.mpe_layout.specs.declared.MpeLayout.{MpeLayout}
@@ -24,7 +25,7 @@ use Rattle.mpe_event.specs.declared.MpeEvent.the-variants.{Layout}
 use Rattle.mpe_event.specs.Update.{messageUpdate, resetIn}
 use Rattle.mpe_receiver.specs.declared.MpeReceiver.{MpeReceiver}
 use Rattle.mpe_receiver.specs.State.{zonesOf, withZones}
-use Rattle.mpe_receiver.specs.Receive.{stored, putWhere, restUpto, receivedByFields, setReply, setState}
+use Rattle.mpe_receiver.specs.Receive.{stored, putWhere, restUpto, receivedByFields, receivedByWord, receiverAfter, setReply, setState}
 use Rattle.mpe_receiver.specs.Claims.{Rested, MaskRests}
 use Rattle.mpe_receiver.specs.WellFormed.{ReceiverFormed}
 use Rattle.mpe_receiver.proofs.WellFormed.{put-length, stored-formed}
@@ -78,6 +79,15 @@ message-rests r e o k a b mask channel w is =
     let z = messageUpdate (zonesOf r) e o k a .zones in
     subst (λ m. Rested mask s (restUpto (withZones s z) m 16) channel) (sym (ap resetIn is)) (rested s z mask channel (stored-formed r o k a b w))
 
+-- every message leaves on each channel what it stored, put to rest where its event resets the channel
+word-rests : (r : MpeReceiver) (e : MaybeEvent) (w channel : ℕ) → ReceiverFormed r → wordForm w ≡ true
+    → Rested (resetIn (receivedByWord r e w .event)) (stored r (opcodeOf w) (channelOf w) (firstOf w) (secondOf w)) (receiverAfter r w e) channel
+unfolding receivedByFields
+word-rests r e w channel f t =
+    let s = stored r (opcodeOf w) (channelOf w) (firstOf w) (secondOf w) in
+    let u = messageUpdate (zonesOf r) e (opcodeOf w) (channelOf w) (firstOf w) in
+    subst (λ m. Rested (resetIn (u .event)) s m channel) (sym (chosen _ r t)) (rested s (u .zones) (resetIn (u .event)) channel (stored-formed r (opcodeOf w) (channelOf w) (firstOf w) (secondOf w) f))
+
 isGiven : Outcome ℕ → Bool
 isGiven (given n) = true
 isGiven (declined n v) = false
@@ -95,4 +105,4 @@ layout-rests r l mask channel w is =
     (λ h. absurd (true≢false (sym (ap isGiven (sym (passed (given resets) outOfRange h) ∙ is)))))
 
 pub mask-rests : MaskRests
-mask-rests = record { of-message = message-rests; of-layout = layout-rests }
+mask-rests = record { of-message = message-rests; of-word = word-rests; of-layout = layout-rests }

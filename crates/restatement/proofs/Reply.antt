@@ -1,6 +1,6 @@
 -- What the reply of a writer says of the settings and of its buffer.
 -- Assumes nothing.
-use Prim.Native.Nat.{ℕ, _≤_}
+use Prim.Native.Nat.{ℕ, _+_, _/_, _≤_}
 use mathlib.Core.Path.{_≡_, refl}
 use mathlib.Core.Bool.{Bool, true, false}
 use mathlib.Core.List.{List, [], _∷_}
@@ -18,7 +18,8 @@ use Rattle.zone_sender.proofs.Written.{the-type}
 use Rattle.zone_sender.specs.Zone.{filled, writtenRead}
 use Rattle.settings.specs.declared.Settings.{Settings}
 use Rattle.settings.specs.Settings.{allowed}
-use Rattle.settings.specs.Messages.{restatedReply}
+use Rattle.mpe_layout.specs.declared.MpeLayout.{MpeLayout}
+use Rattle.settings.specs.Messages.{messageCount, byteCount, restatedReply}
 
 -- a reply that is no count: the buffer stays, and no number was counted
 pub stays : (r : Written) (words out : List ℕ) → OneOf (1 ∷ 2 ∷ []) (tagOf the-type r) → out ≡ filled (writtenRead r) words out
@@ -50,3 +51,8 @@ counted s needed got n e =
     tests true true e = absurd (let z : _≡_ {A = ℕ} 0 1 = cc in omega arith)
     tests true false e = (refl, refl, cc)
     tests false b e = absurd (let z : _≡_ {A = ℕ} 0 1 = cc in omega arith)
+
+-- the messages of a restatement, by its bytes
+pub messages-of : (l : MpeLayout) → (byteCount l + 16) / 3 ≡ messageCount l
+unfolding byteCount messageCount
+messages-of l = omega arith

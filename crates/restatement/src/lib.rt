@@ -2,7 +2,7 @@
 ghost use mathlib.Core.Path.{_≡_};
 ghost use mathlib.Core.Bool.{true};
 ghost use mathlib.Core.List.{[], _∷_};
-ghost use Prim.Native.Nat.{ℕ, _+_, _*_, _<_, _≤_, _^_};
+ghost use Prim.Native.Nat.{ℕ, _+_, _*_, _/_, _<_, _≤_, _^_};
 ghost use lib.ListN.{length, take};
 ghost use lib.Seq.{sets};
 ghost use Rattle.ump.specs.Outcome.{given, allOf};
@@ -19,9 +19,8 @@ use mpe_layout::MpeZone;
 use mpe_pitch::MpeSensitivity;
 use mpe_sender::mcm_messages;
 use mpe_sender::mode_message;
-use restatement_reply::byte_count;
-use restatement_reply::message_count;
-use restatement_reply::restated_reply;
+use restatement_reply::bytes_reply;
+use restatement_reply::words_reply;
 use settings::Settings;
 use settings::ZoneSettings;
 use ump::channel_voice1::Message;
@@ -269,7 +268,7 @@ pub fn restatement_words(settings: Settings, out: &mut [u32]) -> Written
     ensures buffer { λ _. ⌜ now (out .exit) ≡ filled (restatedReply settings (messageCount (settings .layout)) (length (now (out .entry)))) (messages settings) (now (out .entry)) ⌝ }
     ensures counts { λ _. ⌜ CountsHold ⌝ }
 {
-    let reply = restated_reply(settings, message_count(settings.layout), out.len());
+    let reply = words_reply(settings, out.len());
     let Written::Count(count) = reply else {
         return reply;
     };
@@ -309,6 +308,14 @@ fn write_bytes(words: &[u32], n: usize, out: &mut [u8])
     }
 }
 
+// The messages of so many bytes of a restatement: three bytes each, less one for each channel's pressure.
+fn messages_in(bytes: usize) -> usize
+    requires { ⌜ bytes + 16 < 2 ^ 64 ⌝ }
+    ensures { λ r. ⌜ r ≡ (bytes + 16) / 3 ⌝ }
+{
+    (bytes + 16) / 3
+}
+
 // The most messages that settings can take: (7,7).
 const MOST_MESSAGES: usize = 158;
 
@@ -320,12 +327,12 @@ pub fn restatement_bytes(settings: Settings, out: &mut [u8]) -> Written
     ensures demand { λ r. ⌜ ((n : ℕ) → writtenRead r ≡ given n → Demand settings (take n (now (out .exit)))) ⌝ }
     ensures met { λ r. ⌜ ((n : ℕ) → writtenRead r ≡ given n → Met settings (take n (now (out .exit)))) ⌝ }
 {
-    let reply = restated_reply(settings, byte_count(settings.layout), out.len());
+    let reply = bytes_reply(settings, out.len());
     let Written::Count(n) = reply else {
         return reply;
     };
     let mut words: [u32; MOST_MESSAGES] = [0; MOST_MESSAGES];
     write_messages(settings, &mut words);
-    write_bytes(&words, message_count(settings.layout), out);
+    write_bytes(&words, messages_in(n), out);
     Written::Count(n)
 }

@@ -99,7 +99,7 @@ fn one_if_any(members: u8) -> usize
 }
 
 // How many messages a restatement has.
-pub fn message_count(layout: MpeLayout) -> usize
+fn message_count(layout: MpeLayout) -> usize
     ensures { λ r. ⌜ r ≡ messageCount layout ⌝ }
 {
     let zones = one_if_any(layout.lower) + one_if_any(layout.upper);
@@ -108,14 +108,14 @@ pub fn message_count(layout: MpeLayout) -> usize
 }
 
 // How many bytes it has: three a message, less one for each channel's pressure.
-pub fn byte_count(layout: MpeLayout) -> usize
+fn byte_count(layout: MpeLayout) -> usize
     ensures { λ r. ⌜ r ≡ byteCount layout ⌝ }
 {
     3 * message_count(layout) - 16
 }
 
 // What a writer answers that needs so many elements: settings outside their limits are out of range; then a short buffer is too small.
-pub fn restated_reply(settings: Settings, needed: usize, got: usize) -> Written
+fn restated_reply(settings: Settings, needed: usize, got: usize) -> Written
     ensures { λ r. ⌜ writtenRead r ≡ restatedReply settings needed got ⌝ }
 {
     let allowed = is_allowed(settings);
@@ -126,4 +126,18 @@ pub fn restated_reply(settings: Settings, needed: usize, got: usize) -> Written
         return Written::TooSmall { needed, got };
     }
     Written::Count(needed)
+}
+
+// What the writer of words answers, for a buffer of so many words.
+pub fn words_reply(settings: Settings, got: usize) -> Written
+    ensures { λ r. ⌜ writtenRead r ≡ restatedReply settings (messageCount (settings .layout)) got ⌝ }
+{
+    restated_reply(settings, message_count(settings.layout), got)
+}
+
+// What the writer of bytes answers, for a buffer of so many bytes.
+pub fn bytes_reply(settings: Settings, got: usize) -> Written
+    ensures { λ r. ⌜ writtenRead r ≡ restatedReply settings (byteCount (settings .layout)) got ⌝ }
+{
+    restated_reply(settings, byte_count(settings.layout), got)
 }

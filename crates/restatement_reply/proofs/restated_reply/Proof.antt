@@ -1,10 +1,8 @@
 -- `restatement_reply::restated_reply` meets its contract: each test in its turn.
 -- Assumes nothing.
 use mathlib.Core.Path.{sym, _∙_}
-use mathlib.Core.Bool.{true, false}
 use borrow.Author.Tests.{not-true, not-false, lt-ltb, le-ltb}
 use borrow.Author.Needs.{needs}
-use Rattle.settings.specs.Settings.{allowed}
 use Rattle.settings.specs.Messages.{restatedReply}
 use Rattle.restatement_reply.proofs.restated_reply.Statement.{statement}
 use Rattle.restatement_reply.proofs.restated_reply.Tie as tie

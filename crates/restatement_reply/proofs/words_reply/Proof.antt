@@ -1,0 +1,20 @@
+-- `restatement_reply::words_reply` meets its contract.
+-- Assumes nothing.
+use mathlib.Core.Path.{ap, _∙_}
+use borrow.Author.Needs.{needs}
+use Rattle.settings.specs.Messages.{restatedReply}
+use Rattle.restatement_reply.proofs.words_reply.Statement.{statement}
+use Rattle.restatement_reply.proofs.words_reply.Tie as tie
+
+message-count-requires : tie.Need-message-count-requires
+message-count-requires c κs = search needs
+
+restated-reply-requires : tie.Need-restated-reply-requires
+restated-reply-requires c κs = search needs
+
+returns : tie.Need-returns
+returns c = let a = c .before .before .args in
+    c .restated-reply .ensures ∙ ap (λ n. restatedReply (a .settings) n (a .got)) (c .before .message-count .ensures)
+
+pub words-reply-spec : {M : Type 1} → statement M
+words-reply-spec = tie.close (tie.spec message-count-requires restated-reply-requires returns)
