@@ -40,7 +40,7 @@ module _ (r : MpeReceiver) where
       (of-both Same (eqb opcode 0xB) (of-both Same (eqb a 74) refl (of-both Same (eqb a 121) refl refl)) refl))
 
 -- mask 0 names no channel
-none-named : (n : ℕ) → named 0 n ≡ false
+pub none-named : (n : ℕ) → named 0 n ≡ false
 none-named n = rw zero-div
 
 none-put : (v : ℕ) (l : List ℕ) (n : ℕ) → putWhere (named 0) v l n ≡ l

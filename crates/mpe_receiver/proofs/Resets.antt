@@ -3,7 +3,7 @@
 use Prim.Native.Nat.{ℕ, zero, suc, _<_, _≤_}
 use mathlib.Core.Path.{_≡_, refl, sym, ap, subst, _∙_}
 use mathlib.Core.Bool.{Bool, true, false, true≢false}
-use mathlib.Core.Logic.{⊎-elim}
+use mathlib.Core.Logic.{⊎-elim, _≢_}
 use mathlib.Core.List.{List}
 use native.Mathlib.Nat.{mod-lt, mod-mod, eq-or-lt-of-le, le-of-suc-le-suc, not-suc-le-zero}
 use native.Mathlib.Omega.{arith}
@@ -21,14 +21,17 @@ use Rattle.mpe_layout.specs.Layout.{legal}
 use Rattle.mpe_reset.specs.Reset.{named, maskOrZero}
 use Rattle.mpe_zones.specs.declared.Zones.{Zones}
 use Rattle.mpe_zones.specs.Zones.{withZonesOf, layoutResets}
-use Rattle.mpe_event.specs.declared.MpeEvent.the-variants.{Layout}
+use Rattle.mpe_event.specs.declared.MpeEvent.{MpeEvent}
+use Rattle.mpe_event.specs.declared.MpeEvent.the-variants.{NoZone, Zone, Layout, Sensitivity, Mode, Ignored}
 use Rattle.mpe_event.specs.Update.{messageUpdate, resetIn}
 use Rattle.mpe_receiver.specs.declared.MpeReceiver.{MpeReceiver}
 use Rattle.mpe_receiver.specs.State.{zonesOf, withZones}
-use Rattle.mpe_receiver.specs.Receive.{stored, putWhere, restUpto, receivedByFields, receivedByWord, receiverAfter, setReply, setState}
-use Rattle.mpe_receiver.specs.Claims.{Rested, MaskRests}
+use Rattle.mpe_receiver.specs.Receive.{putWhere, restUpto, receivedByFields, receivedByWord, receiverReply, receiverAfter, setReply, setState}
+use Rattle.mpe_receiver.specs.Claims.{Rested, Controls, storedBy, MaskRests}
+use Rattle.mpe_receiver.specs.Read.{bendAt, pressureAt, brightnessAt}
 use Rattle.mpe_receiver.specs.WellFormed.{ReceiverFormed}
 use Rattle.mpe_receiver.proofs.WellFormed.{put-length, stored-formed}
+use Rattle.mpe_receiver.proofs.Parts.{none-named}
 
 module _ (hit : ℕ → Bool) (v : ℕ) (l : List ℕ) where
   -- at n and past it nothing is put
@@ -71,26 +74,52 @@ module _ (r : MpeReceiver) (z : Zones) (mask channel : ℕ) (w : ReceiverFormed 
         its-brightness = at-rest 64 (r .brightness) (w .brightnesses);
       }
 
-message-rests : (r : MpeReceiver) (e : MaybeEvent) (o k a b mask channel : ℕ) → ReceiverFormed r → receivedByFields r e o k a b .event ≡ Layout mask
-    → Rested mask (stored r o k a b) (receivedByFields r e o k a b .receiver) channel
-unfolding receivedByFields
-message-rests r e o k a b mask channel w is =
-    let s = stored r o k a b in
-    let z = messageUpdate (zonesOf r) e o k a .zones in
-    subst (λ m. Rested mask s (restUpto (withZones s z) m 16) channel) (sym (ap resetIn is)) (rested s z mask channel (stored-formed r o k a b w))
+isGiven : {A : Type 0} → Outcome A → Bool
+isGiven (given x) = true
+isGiven (declined n v) = false
 
--- every message leaves on each channel what it stored, put to rest where its event resets the channel
-word-rests : (r : MpeReceiver) (e : MaybeEvent) (w channel : ℕ) → ReceiverFormed r → wordForm w ≡ true
-    → Rested (resetIn (receivedByWord r e w .event)) (stored r (opcodeOf w) (channelOf w) (firstOf w) (secondOf w)) (receiverAfter r w e) channel
+-- what is answered is the event of a word that has the form
+reply-given : (r : MpeReceiver) (e : MaybeEvent) (event : MpeEvent) (w : ℕ) → receiverReply r w e ≡ given event → (wordForm w ≡ true) × (receivedByWord r e w .event ≡ event)
+unfolding isGiven
+reply-given r e event w is =
+    by-test (wordForm w)
+    (λ h.
+    let p : _≡_ {A = Outcome MpeEvent} (given (receivedByWord r e w .event)) (given event) = sym (chosen (given (receivedByWord r e w .event)) outOfRange h) ∙ is in
+    (h, cc))
+    (λ h. absurd (true≢false (sym (ap isGiven (sym (passed (given (receivedByWord r e w .event)) outOfRange h) ∙ is)))))
+
+-- a message leaves what it stored, put to rest where its event resets the channel
+word-rests : (r : MpeReceiver) (e : MaybeEvent) (w channel : ℕ) → ReceiverFormed r → wordForm w ≡ true → Rested (resetIn (receivedByWord r e w .event)) (storedBy r w) (receiverAfter r w e) channel
 unfolding receivedByFields
 word-rests r e w channel f t =
-    let s = stored r (opcodeOf w) (channelOf w) (firstOf w) (secondOf w) in
     let u = messageUpdate (zonesOf r) e (opcodeOf w) (channelOf w) (firstOf w) in
-    subst (λ m. Rested (resetIn (u .event)) s m channel) (sym (chosen _ r t)) (rested s (u .zones) (resetIn (u .event)) channel (stored-formed r (opcodeOf w) (channelOf w) (firstOf w) (secondOf w) f))
+    subst (λ m. Rested (resetIn (u .event)) (storedBy r w) m channel) (sym (chosen _ r t))
+    (rested (storedBy r w) (u .zones) (resetIn (u .event)) channel (stored-formed r (opcodeOf w) (channelOf w) (firstOf w) (secondOf w) f))
 
-isGiven : Outcome ℕ → Bool
-isGiven (given n) = true
-isGiven (declined n v) = false
+message-rests : (r : MpeReceiver) (e : MaybeEvent) (w mask channel : ℕ) → ReceiverFormed r → receiverReply r w e ≡ given (Layout mask) → Rested mask (storedBy r w) (receiverAfter r w e) channel
+message-rests r e w mask channel f is =
+    let g = reply-given r e (Layout mask) w is in
+    subst (λ m. Rested m (storedBy r w) (receiverAfter r w e) channel) (ap resetIn (g .1)) (word-rests r e w channel f (g .0))
+
+-- an event that is no change of layout resets nothing
+none-reset : (event : MpeEvent) → ((mask : ℕ) → event ≢ Layout mask) → resetIn event ≡ 0
+none-reset NoZone n = refl
+none-reset (Zone z m) n = refl
+none-reset (Layout mask) n = absurd (n mask refl)
+none-reset (Sensitivity z m) n = refl
+none-reset (Mode z) n = refl
+none-reset Ignored n = refl
+
+other-message-stored : (r : MpeReceiver) (e : MaybeEvent) (event : MpeEvent) (w channel : ℕ) → ReceiverFormed r → receiverReply r w e ≡ given event → ((mask : ℕ) → event ≢ Layout mask)
+    → Controls (receiverAfter r w e) channel (bendAt (storedBy r w) channel) (pressureAt (storedBy r w) channel) (brightnessAt (storedBy r w) channel)
+other-message-stored r e event w channel f is n =
+    let g = reply-given r e event w is in
+    let c = subst (λ m. Rested m (storedBy r w) (receiverAfter r w e) channel) (ap resetIn (g .1) ∙ none-reset event n) (word-rests r e w channel f (g .0)) in
+    record {
+      reads-bend = c .its-bend ∙ passed _ _ (none-named channel);
+      reads-pressure = c .its-pressure ∙ passed _ _ (none-named channel);
+      reads-brightness = c .its-brightness ∙ passed _ _ (none-named channel);
+    }
 
 layout-rests : (r : MpeReceiver) (l : MpeLayout) (mask channel : ℕ) → ReceiverFormed r → setReply r l ≡ given mask → Rested mask r (setState r l) channel
 unfolding isGiven
@@ -105,4 +134,4 @@ layout-rests r l mask channel w is =
     (λ h. absurd (true≢false (sym (ap isGiven (sym (passed (given resets) outOfRange h) ∙ is)))))
 
 pub mask-rests : MaskRests
-mask-rests = record { of-message = message-rests; of-word = word-rests; of-layout = layout-rests }
+mask-rests = record { of-message = message-rests; of-other-message = other-message-stored; of-layout = layout-rests }

@@ -1,19 +1,18 @@
 -- What the channels read after a change of layout, and after a message (document 01, "The receiver").
 use Prim.Native.Nat.{ℕ, _+_, _*_, _^_, _<_}
 use mathlib.Core.Path.{_≡_}
-use mathlib.Core.Bool.{true}
 use mathlib.Core.Logic.{_≢_}
 use Rattle.ump.specs.Choice.{if_then_else_}
 use Rattle.ump.specs.Outcome.{given}
 use Rattle.ump.specs.Packet.{packetValue}
-use Rattle.ump.specs.Word.{opcodeOf, channelOf, firstOf, secondOf, wordForm}
+use Rattle.ump.specs.Word.{opcodeOf, channelOf, firstOf, secondOf}
 use Rattle.parameters.specs.declared.MaybeEvent.{MaybeEvent}
 use Rattle.mpe_layout.specs.declared.MpeLayout.{MpeLayout}
 use Rattle.mpe_reset.specs.Reset.{named}
+use Rattle.mpe_event.specs.declared.MpeEvent.{MpeEvent}
 use Rattle.mpe_event.specs.declared.MpeEvent.the-variants.{Layout}
-use Rattle.mpe_event.specs.Update.{resetIn}
 use Rattle.mpe_receiver.specs.declared.MpeReceiver.{MpeReceiver}
-use Rattle.mpe_receiver.specs.Receive.{stored, receivedByFields, receivedByWord, receiverAfter, setReply, setState}
+use Rattle.mpe_receiver.specs.Receive.{stored, receiverReply, receiverAfter, setReply, setState}
 use Rattle.mpe_receiver.specs.Read.{bendAt, pressureAt, brightnessAt}
 use Rattle.mpe_receiver.specs.WellFormed.{ReceiverFormed}
 
@@ -23,17 +22,21 @@ pub record Rested (mask : ℕ) (before after : MpeReceiver) (channel : ℕ) : Ty
   pub its-pressure : pressureAt after channel ≡ (if named mask channel then 0 else pressureAt before channel)
   pub its-brightness : brightnessAt after channel ≡ (if named mask channel then 64 else brightnessAt before channel)
 
--- the mask that a message is answered with, its control stored first, whatever its event; and the mask of a layout that is set
-pub record MaskRests : Type 0 where
-  pub of-message : (r : MpeReceiver) (e : MaybeEvent) (opcode source a b mask channel : ℕ) → ReceiverFormed r → receivedByFields r e opcode source a b .event ≡ Layout mask → Rested mask (stored r opcode source a b) (receivedByFields r e opcode source a b .receiver) channel
-  pub of-word : (r : MpeReceiver) (e : MaybeEvent) (w channel : ℕ) → ReceiverFormed r → wordForm w ≡ true → Rested (resetIn (receivedByWord r e w .event)) (stored r (opcodeOf w) (channelOf w) (firstOf w) (secondOf w)) (receiverAfter r w e) channel
-  pub of-layout : (r : MpeReceiver) (l : MpeLayout) (mask channel : ℕ) → ReceiverFormed r → setReply r l ≡ given mask → Rested mask r (setState r l) channel
-
 -- the controls that a channel reads
 pub record Controls (r : MpeReceiver) (channel bend pressure brightness : ℕ) : Type 0 where
   pub reads-bend : bendAt r channel ≡ bend
   pub reads-pressure : pressureAt r channel ≡ pressure
   pub reads-brightness : brightnessAt r channel ≡ brightness
+
+-- what the message of a word stores
+abbrev pub storedBy : MpeReceiver → ℕ → MpeReceiver
+storedBy r w = stored r (opcodeOf w) (channelOf w) (firstOf w) (secondOf w)
+
+-- a message that is answered with a mask, its control stored first; any other message, which leaves what it stored; and a layout that is set
+pub record MaskRests : Type 0 where
+  pub of-message : (r : MpeReceiver) (e : MaybeEvent) (w mask channel : ℕ) → ReceiverFormed r → receiverReply r w e ≡ given (Layout mask) → Rested mask (storedBy r w) (receiverAfter r w e) channel
+  pub of-other-message : (r : MpeReceiver) (e : MaybeEvent) (event : MpeEvent) (w channel : ℕ) → ReceiverFormed r → receiverReply r w e ≡ given event → ((mask : ℕ) → event ≢ Layout mask) → Controls (receiverAfter r w e) channel (bendAt (storedBy r w) channel) (pressureAt (storedBy r w) channel) (brightnessAt (storedBy r w) channel)
+  pub of-layout : (r : MpeReceiver) (l : MpeLayout) (mask channel : ℕ) → ReceiverFormed r → setReply r l ≡ given mask → Rested mask r (setState r l) channel
 
 -- "first stores bend, pressure or brightness (controller 74) for the channel, whatever its role. Controller 121 puts bend to 0x2000 and pressure to 0 and
 -- spares brightness"; every other message stores nothing, and no message anything on another channel
