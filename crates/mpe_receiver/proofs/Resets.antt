@@ -27,7 +27,7 @@ use Rattle.mpe_event.specs.Update.{messageUpdate, resetIn}
 use Rattle.mpe_receiver.specs.declared.MpeReceiver.{MpeReceiver}
 use Rattle.mpe_receiver.specs.State.{zonesOf, withZones}
 use Rattle.mpe_receiver.specs.Receive.{putWhere, restUpto, receivedByFields, receivedByWord, receiverReply, receiverAfter, setReply, setState}
-use Rattle.mpe_receiver.specs.Claims.{Rested, Controls, storedBy, MaskRests}
+use Rattle.mpe_receiver.specs.Claims.{Rested, Controls, storedBy, MaskRests, ByZones}
 use Rattle.mpe_receiver.specs.Read.{bendAt, pressureAt, brightnessAt}
 use Rattle.mpe_receiver.specs.WellFormed.{ReceiverFormed}
 use Rattle.mpe_receiver.proofs.WellFormed.{put-length, stored-formed}
@@ -135,3 +135,19 @@ layout-rests r l mask channel w is =
 
 pub mask-rests : MaskRests
 mask-rests = record { of-message = message-rests; of-other-message = other-message-stored; of-layout = layout-rests }
+
+zones-of-chosen : (b : Bool) (x y : MpeReceiver) → zonesOf (if b then x else y) ≡ (if b then zonesOf x else zonesOf y)
+zones-of-chosen true x y = refl
+zones-of-chosen false x y = refl
+
+pub by-zones : ByZones
+unfolding receivedByFields
+by-zones =
+    record {
+      replies = λ r e w. refl;
+      zones-left = λ r e w. zones-of-chosen (wordForm w) (receivedByWord r e w .receiver) r;
+      declined-left = λ r e w h. passed (receivedByWord r e w .receiver) r h;
+      set-replies = λ r l. refl;
+      zones-set = λ r l. zones-of-chosen (legal l) (restUpto (withZones r (withZonesOf (zonesOf r) l)) (layoutResets (r .layout) l) 16) r;
+      illegal-left = λ r l h. passed _ r h;
+    }

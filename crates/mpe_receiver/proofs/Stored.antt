@@ -1,13 +1,14 @@
 -- What a message stores is read on its channel, and nothing else is stored.
 -- Assumes nothing.
-use Prim.Native.Nat.{ℕ, _%_, _<_}
-use mathlib.Core.Path.{_≡_, refl, ap, _∙_}
+use Prim.Native.Nat.{ℕ, _<_}
+use mathlib.Core.Path.{_≡_, refl, _∙_}
 use mathlib.Core.Logic.{_≢_}
 use mathlib.Core.List.{List}
+use native.Mathlib.Nat.{mod-lt}
 use native.Mathlib.Omega.{arith}
 use lib.ListN.{length, getD, set}
 use lib.Seq.{getD-set-same, getD-set-other}
-use lib.Dec.{eqb}
+use lib.Dec.{eqb, lit<}
 use borrow.Author.Tests.{ne-eqb}
 use Rattle.ump.specs.Packet.{packetValue}
 use Rattle.ump.proofs.Cases.{of-both, passed}
@@ -16,10 +17,10 @@ use Rattle.mpe_receiver.specs.Receive.{stored}
 use Rattle.mpe_receiver.specs.Read.{bendAt, pressureAt, brightnessAt}
 use Rattle.mpe_receiver.specs.Claims.{Controls, ControlsStored}
 
-put-read : (l : List ℕ) (k v : ℕ) → length l ≡ 16 → k < 16 → getD (set l k v) (k % 16) 0 ≡ v
-put-read l k v e h =
-    let m : k % 16 ≡ k = omega arith in
-    ap (λ i. getD (set l k v) i 0) m ∙ getD-set-same l k v 0 (omega arith)
+put-read : (l : List ℕ) (channel v : ℕ) → length l ≡ 16 → getD (set l (packetValue channel) v) (packetValue channel) 0 ≡ v
+put-read l channel v e =
+    let m : packetValue channel < 16 = mod-lt channel (lit< tt) in
+    getD-set-same l (packetValue channel) v 0 (omega arith)
 
 -- a channel that is not the message's own reads as before
 other-kept : (r : MpeReceiver) (opcode k a b channel : ℕ) → packetValue channel ≢ k
@@ -45,13 +46,13 @@ pub controls-stored : ControlsStored
 unfolding stored
 controls-stored =
     record {
-      of-bend = λ r k a b w h. record { reads-bend = put-read (r .«pitch_bend») k _ (w .bends) h; reads-pressure = refl; reads-brightness = refl };
-      of-pressure = λ r k a b w h. record { reads-bend = refl; reads-pressure = put-read (r .pressure) k a (w .pressures) h; reads-brightness = refl };
-      of-brightness = λ r k b w h. record { reads-bend = refl; reads-pressure = refl; reads-brightness = put-read (r .brightness) k b (w .brightnesses) h };
-      of-reset = λ r k b w h.
+      of-bend = λ r k a b w. record { reads-bend = put-read (r .«pitch_bend») k _ (w .bends); reads-pressure = refl; reads-brightness = refl };
+      of-pressure = λ r k a b w. record { reads-bend = refl; reads-pressure = put-read (r .pressure) k a (w .pressures); reads-brightness = refl };
+      of-brightness = λ r k b w. record { reads-bend = refl; reads-pressure = refl; reads-brightness = put-read (r .brightness) k b (w .brightnesses) };
+      of-reset = λ r k b w.
           record {
-            reads-bend = put-read (r .«pitch_bend») k 0x2000 (w .bends) h;
-            reads-pressure = put-read (r .pressure) k 0 (w .pressures) h;
+            reads-bend = put-read (r .«pitch_bend») k 0x2000 (w .bends);
+            reads-pressure = put-read (r .pressure) k 0 (w .pressures);
             reads-brightness = refl;
           };
       of-other-controllers = λ r k a b n m. passed _ _ (ne-eqb a 74 n) ∙ passed _ _ (ne-eqb a 121 m);

@@ -9,7 +9,7 @@ ghost use Rattle.mpe_event.specs.Update.{mpeReplyRead, resetIn};
 ghost use Rattle.mpe_receiver.specs.State.{newReceiver, zonesOf, withZones};
 ghost use Rattle.mpe_receiver.specs.Receive.{stored, restUpto, receiverReply, receiverAfter, setReply, setState, settled};
 ghost use Rattle.mpe_receiver.specs.Read.{modeOf, sensitivityOf, bendAt, pressureAt, brightnessAt, managerOffset, memberOffset, offsetByRole, offsetOf, offsetRead};
-ghost use Rattle.mpe_receiver.specs.Claims.{ControlsStored, MaskRests};
+ghost use Rattle.mpe_receiver.specs.Claims.{ControlsStored, MaskRests, ByZones};
 ghost use Rattle.mpe_receiver.specs.Bench.{TableHolds};
 use mpe_event::MpeEvent;
 use mpe_event::MpeReply;
@@ -214,7 +214,7 @@ impl MpeReceiver {
     pub fn set_layout(self, layout: MpeLayout) -> LayoutSet
         ensures reply { λ r. ⌜ maskFound (r .reply) ≡ setReply self layout ⌝ }
         ensures state { λ r. ⌜ r .receiver ≡ setState self layout ⌝ }
-        ensures rests { λ _. ⌜ MaskRests ⌝ }
+        ensures rests { λ _. ⌜ MaskRests × ByZones ⌝ }
     {
         let set = self.zones().set_layout(layout);
         let zones = set.zones;

@@ -2,7 +2,7 @@
 -- Assumes nothing.
 use borrow.Author.Needs.{needs}
 use Rattle.mpe_receiver.proofs.Parts.{set-updated, unset-left}
-use Rattle.mpe_receiver.proofs.Resets.{mask-rests}
+use Rattle.mpe_receiver.proofs.Resets.{mask-rests, by-zones}
 use Rattle.mpe_receiver.proofs.MpeReceiver.set_layout.Statement.{statement}
 use Rattle.mpe_receiver.proofs.MpeReceiver.set_layout.Tie as tie
 
@@ -31,14 +31,14 @@ returns c =
     let a = u .before .before .args in
     let p = set-updated (a .self) (a .layout) _ (u .before .zones .ensures) (u .set-layout .ensures .0)
     (v .before .before .reply .given .1) (u .set-layout .ensures .1) (v .with-zones .ensures) (c .rest .ensures) in
-    (p .0, (p .1, mask-rests))
+    (p .0, (p .1, (mask-rests, by-zones)))
 
 returns-2 : tie.Need-returns-2
 returns-2 c =
     let u = c .before .before .before in
     let a = u .before .before .args in
     let p = unset-left (a .self) (a .layout) _ (u .before .zones .ensures) (u .set-layout .ensures .0) (c .enum-told .given .1) in
-    (p .0, (p .1, mask-rests))
+    (p .0, (p .1, (mask-rests, by-zones)))
 
 pub set-layout-spec : {M : Type 1} → statement M
 set-layout-spec =
