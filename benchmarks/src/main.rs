@@ -17,6 +17,9 @@ mod random;
 #[path = "../../oracle/trace/src/reader.rs"]
 mod reader;
 mod rust;
+#[allow(dead_code)]
+#[path = "../../oracle/trace/src/sensitivity.rs"]
+mod sensitivity;
 mod stack;
 mod streams;
 

@@ -3,7 +3,7 @@
 
 use crate::end::{End, Reply};
 use crate::restatement::{ChannelSettings, Settings, ZoneSettings};
-use zmidi_io::mpe::{MpeEvent, MpeLayout, MpeNoteAllocator, MpeZone};
+use zmidi_io::mpe::{MpeEvent, MpeLayout, MpeNoteAllocator, MpeSensitivity, MpeZone};
 use zmidi_ump::Channel;
 
 fn zone_code(zone: MpeZone) -> u64 {
@@ -93,8 +93,8 @@ pub fn notes(notes: &[u8]) -> u64 {
 /// Two zones of seven with this bend on every channel.
 fn bent(bend: u16) -> Settings {
     let zone = || ZoneSettings {
-        manager: 2,
-        member: 48,
+        manager: MpeSensitivity::MANAGER_DEFAULT,
+        member: MpeSensitivity::MEMBER_DEFAULT,
         mode: 3,
     };
     let channel = |_| ChannelSettings {

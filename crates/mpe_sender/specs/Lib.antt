@@ -1,2 +1,3 @@
 -- Definitions that the contracts cite: the messages of a sender.
 pub mod Writers
+pub mod Claims

@@ -1,7 +1,7 @@
 -- The messages that a sender writes for a channel or a note, with Group 0 (M1-100 2.2.1, 2.2.4.3, 2.2.5, 2.4, Appendices B and C).
 use Prim.Native.Nat.{ℕ}
-use mathlib.Core.Bool.{Bool}
-use mathlib.Core.List.{List, [], _∷_}
+use mathlib.Core.Bool.{Bool, true, false}
+use mathlib.Core.List.{List, [], _∷_, _++_}
 use lib.Dec.{ltb, eqb}
 use Rattle.ump.specs.Choice.{if_then_else_}
 use Rattle.ump.specs.Outcome.{Outcome, given, outOfRange, allOf, followedBy}
@@ -14,6 +14,7 @@ use Rattle.parameter_event.specs.declared.ParameterChange.the-variants.{DataEnt
 use Rattle.mpe_layout.specs.Layout.{ofLegal, membersOf, managerOf, lowestOf}
 use Rattle.mpe_layout.specs.declared.MpeZone.{MpeZone}
 use Rattle.mpe_layout.specs.declared.MpeLayout.{MpeLayout}
+use Rattle.mpe_pitch.specs.declared.MpeSensitivity.{MpeSensitivity}
 use Rattle.mpe_sender.specs.declared.ActiveZone.{ActiveZone}
 use Rattle.mpe_sender.specs.declared.ActiveZone.the-variants.{Zone, OutOfRange}
 
@@ -35,14 +36,22 @@ rpnMessages channel rpn value =
 unfoldable pub mcmMessages : MpeZone → ℕ → Outcome (List ℕ)
 mcmMessages zone members = if ltb 15 members then outOfRange else given (rpnGroup (managerOf zone) 0 6 members)
 
--- the messages that set the Pitch Bend Sensitivity of a channel: RPN 0 0 in whole semitones (2.2.5, C.2)
-abbrev pub sensitivityGroup : ℕ → ℕ → List ℕ
-sensitivityGroup channel semitones = rpnGroup channel 0 0 semitones
+-- the messages that set the Pitch Bend Sensitivity of a channel: RPN 0 0 with the semitones, then Data Entry LSB (38) with the cents (2.2.5, C.2;
+-- document 02, 2026-01)
+abbrev pub sensitivityGroup : ℕ → MpeSensitivity → List ℕ
+sensitivityGroup channel s = rpnGroup channel 0 0 (s .semitones) ++ controlWord channel 38 (s .cents) ∷ []
 
--- at most 96 semitones (2.2.5)
-unfoldable pub sensitivityMessages : ℕ → ℕ → Outcome (List ℕ)
-sensitivityMessages channel semitones =
-    if ltb 96 semitones then outOfRange else given (sensitivityGroup (packetValue channel) semitones)
+-- at most 96 semitones (2.2.5) and at most 99 cents (document 02, 2026-01)
+unfoldable pub sensitivityAllowed : MpeSensitivity → Bool
+sensitivityAllowed s = if ltb 96 (s .semitones) then false else if ltb 99 (s .cents) then false else true
+
+-- to a writer any other sensitivity is out of range
+abbrev pub ofAllowed : {A : Type 0} → MpeSensitivity → Outcome A → Outcome A
+ofAllowed s answer = if sensitivityAllowed s then answer else outOfRange
+
+-- on a channel, taken modulo 16
+abbrev pub sensitivityMessages : ℕ → MpeSensitivity → Outcome (List ℕ)
+sensitivityMessages channel s = ofAllowed s (given (sensitivityGroup (packetValue channel) s))
 
 -- to a writer an illegal layout and a zone without members are out of range
 abbrev pub inActive : {A : Type 0} → MpeLayout → MpeZone → Outcome A → Outcome A

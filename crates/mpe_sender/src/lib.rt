@@ -4,15 +4,18 @@ ghost use mathlib.Core.List.{[], _∷_};
 ghost use Rattle.ump.specs.Outcome.{allOf, followedBy};
 ghost use Rattle.ump.specs.Packet.{packetValue};
 ghost use Rattle.ump.specs.Word.{twoDataWord, oneDataWord, bendWord, messageMade, twoMade, threeMade, fourMade};
-ghost use Rattle.mpe_sender.specs.Writers.{rpnMessages, mcmMessages, sensitivityMessages, zoneFor, zoneFound, modeOn, modeMessage, noteMessages};
+ghost use Rattle.mpe_sender.specs.Writers.{rpnMessages, mcmMessages, sensitivityAllowed, sensitivityMessages, zoneFor, zoneFound, modeOn, modeMessage, noteMessages};
+ghost use Rattle.mpe_sender.specs.Claims.{AllowedWithin, SentEntered};
 use mpe_layout::LowestMember;
 use mpe_layout::Members;
 use mpe_layout::MpeLayout;
 use mpe_layout::MpeZone;
+use mpe_pitch::MpeSensitivity;
 use parameter_event::Parameter;
 use parameter_event::ParameterChange;
 use parameter_messages::change_message;
 use parameter_messages::select_messages;
+use parameter_messages::value_messages;
 use ump::channel_voice1::FourWords;
 use ump::channel_voice1::Message;
 use ump::channel_voice1::Midi1ChannelPressure;
@@ -59,14 +62,33 @@ pub fn mcm_messages(zone: MpeZone, members: u8) -> ThreeWords
     rpn_messages(zone.manager(), Rpn::Other { msb: 0, lsb: 6 }, members)
 }
 
-// The Pitch Bend Sensitivity of a channel: RPN 0 in whole semitones. Above 96 is out of range.
-pub fn sensitivity_messages(channel: u8, semitones: u8) -> ThreeWords
-    ensures { λ r. ⌜ threeMade r ≡ sensitivityMessages channel semitones ⌝ }
+// A sensitivity that may be sent: at most 96 semitones and at most 99 cents.
+pub fn sensitivity_allowed(sensitivity: MpeSensitivity) -> bool
+    ensures is { λ r. ⌜ r ≡ sensitivityAllowed sensitivity ⌝ }
+    ensures limits { λ r. ⌜ AllowedWithin sensitivity r ⌝ }
 {
-    if 96 < semitones {
-        return ThreeWords::OutOfRange;
+    if 96 < sensitivity.semitones {
+        return false;
     }
-    rpn_messages(channel, Rpn::PitchBendSensitivity, semitones)
+    if 99 < sensitivity.cents {
+        return false;
+    }
+    true
+}
+
+// The Pitch Bend Sensitivity of a channel: RPN 0, its semitones and then its cents. Semitones above 96 or cents above 99 are out of range.
+pub fn sensitivity_messages(channel: u8, semitones: u8, cents: u8) -> FourWords
+    ensures words { λ r. ⌜ fourMade r ≡ sensitivityMessages channel (record { semitones = semitones; cents = cents }) ⌝ }
+    ensures entered { λ r. ⌜ SentEntered (fourMade r) channel semitones cents ⌝ }
+{
+    if !sensitivity_allowed(MpeSensitivity { semitones, cents }) {
+        return FourWords::OutOfRange;
+    }
+    value_messages(
+        channel,
+        Parameter::Registered(Rpn::PitchBendSensitivity),
+        semitones as u16 * 128 + cents as u16,
+    )
 }
 
 // The lowest member and the member count of an active zone.

@@ -3,6 +3,7 @@ use crate::arguments;
 use crate::out::Out;
 use byte_call::step_all;
 use mpe_layout::MpeLayout;
+use mpe_pitch::MpeSensitivity;
 use receiving_end::end::End;
 use restatement::restatement_bytes;
 use restatement::restatement_words;
@@ -16,22 +17,31 @@ const BYTE_BEFORE: u8 = 0xA5;
 
 const WORD_BEFORE: u32 = 0x2FEF7F7F;
 
+// What S sets for a zone: semitones and cents of its manager, then of its members, and its mode.
+fn zone(s: u8, t: u8, a: u8, b: u8, mode: u8) -> ZoneSettings {
+    let manager = MpeSensitivity {
+        semitones: s,
+        cents: t,
+    };
+    let member = MpeSensitivity {
+        semitones: a,
+        cents: b,
+    };
+    ZoneSettings {
+        manager,
+        member,
+        mode,
+    }
+}
+
 // S without its channels.
 fn zones(item: &[u8; 80]) -> Settings {
     let layout = MpeLayout {
         lower: item[1],
         upper: item[2],
     };
-    let lower = ZoneSettings {
-        manager: item[3],
-        member: item[4],
-        mode: item[5],
-    };
-    let upper = ZoneSettings {
-        manager: item[6],
-        member: item[7],
-        mode: item[8],
-    };
+    let lower = zone(item[3], item[4], item[5], item[6], item[7]);
+    let upper = zone(item[8], item[9], item[10], item[11], item[12]);
     let mut settings = Settings::new();
     settings.layout = layout;
     settings.lower = lower;
@@ -44,7 +54,7 @@ fn settings(item: &[u8; 80]) -> Settings {
     let mut settings = zones(item);
     let mut k = 0;
     while k < 16 {
-        let at = 9 + 4 * k;
+        let at = 13 + 4 * k;
         settings.pitch_bend[k] = arguments::two(item[at], item[at + 1]);
         settings.pressure[k] = item[at + 2];
         settings.brightness[k] = item[at + 3];
@@ -71,7 +81,7 @@ fn bytes_into(out: Out, item: &[u8; 80], bytes: &mut [u8], buffer: &mut [u8; 409
 }
 
 fn bytes_answer(out: Out, item: &[u8; 80], buffer: &mut [u8; 4096]) -> Out {
-    let n = buffer_length(arguments::two(item[73], item[74]), 1024);
+    let n = buffer_length(arguments::two(item[77], item[78]), 1024);
     let mut bytes = [BYTE_BEFORE; 1024];
     bytes_into(out, item, &mut bytes[..n], buffer)
 }
@@ -83,7 +93,7 @@ fn words_into(out: Out, item: &[u8; 80], words: &mut [u32], buffer: &mut [u8; 40
 }
 
 fn words_answer(out: Out, item: &[u8; 80], buffer: &mut [u8; 4096]) -> Out {
-    let n = buffer_length(arguments::two(item[73], item[74]), 256);
+    let n = buffer_length(arguments::two(item[77], item[78]), 256);
     let mut words = [WORD_BEFORE; 256];
     words_into(out, item, &mut words[..n], buffer)
 }

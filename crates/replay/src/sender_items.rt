@@ -7,6 +7,7 @@ use mpe_class::MpeClass;
 use mpe_class::MpeMessage;
 use mpe_class::mpe_class;
 use mpe_layout::MpeLayout;
+use mpe_pitch::MpeSensitivity;
 use mpe_sender::mcm_messages;
 use mpe_sender::mode_message;
 use mpe_sender::note_messages;
@@ -86,7 +87,7 @@ pub(crate) fn answer(item: Item) -> Line {
         return Line::of_three_words(mcm_messages(arguments::zone(item.a1), item.a2));
     }
     if operation == 0x52 {
-        return Line::of_three_words(sensitivity_messages(item.a1, item.a2));
+        return Line::of_four_words(sensitivity_messages(item.a1, item.a2, item.a3));
     }
     if operation == 0x54 {
         return mode(item);
@@ -96,10 +97,10 @@ pub(crate) fn answer(item: Item) -> Line {
 
 // The length of item 53's buffer: an item with a larger one is not answered.
 fn buffer_length(n: u8) -> usize
-    ensures { λ r. ⌜ r ≤ 64 ⌝ }
+    ensures { λ r. ⌜ r ≤ 80 ⌝ }
 {
-    if 64 < n {
-        return 64;
+    if 80 < n {
+        return 80;
     }
     n as usize
 }
@@ -111,13 +112,21 @@ fn zone_into(out: Out, item: Item, words: &mut [u32], buffer: &mut [u8; 4096]) -
         upper: item.a2,
     };
     let zone = arguments::zone(item.a3);
-    let written = zone_sensitivity_messages(layout, zone, item.a4, item.a5, words);
+    let manager = MpeSensitivity {
+        semitones: item.a4,
+        cents: item.a5,
+    };
+    let member = MpeSensitivity {
+        semitones: item.a6,
+        cents: item.a7,
+    };
+    let written = zone_sensitivity_messages(layout, zone, manager, member, words);
     out.written(buffer, written).words(buffer, words)
 }
 
 // Answers item 53.
 pub(crate) fn zone_answer(out: Out, item: Item, buffer: &mut [u8; 4096]) -> Out {
-    let n = buffer_length(item.a6);
-    let mut words = [BEFORE; 64];
+    let n = buffer_length(item.a8);
+    let mut words = [BEFORE; 80];
     zone_into(out, item, &mut words[..n], buffer)
 }

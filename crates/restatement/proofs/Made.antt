@@ -68,12 +68,9 @@ mode-made s zone h =
     (λ e. rw (g, e, mode-on s zone (isMono (zoneOf s zone)) g (omega (arith, eqb-false (membersIn s zone) 0 e))))
 
 -- C: how many words are written, and the buffer
-abbrev semitonesShown : Settings → MpeZone → Bool → ℕ
-semitonesShown s zone manager = shownSensitivity s zone manager .semitones
-
 pub record Written (s : Settings) (zone : MpeZone) (got : ℕ) : Type 0 where
-  pub count : countIn (zoneReply (s .layout) zone (semitonesShown s zone true) (semitonesShown s zone false) got) ≡ length (sensitivities s zone)
-  pub buffer : (part : List ℕ) → filled (zoneReply (s .layout) zone (semitonesShown s zone true) (semitonesShown s zone false) got) (zoneWords (s .layout) zone (semitonesShown s zone true) (semitonesShown s zone false)) part
+  pub count : countIn (zoneReply (s .layout) zone (shownSensitivity s zone true) (shownSensitivity s zone false) got) ≡ length (sensitivities s zone)
+  pub buffer : (part : List ℕ) → filled (zoneReply (s .layout) zone (shownSensitivity s zone true) (shownSensitivity s zone false) got) (zoneWords (s .layout) zone (shownSensitivity s zone true) (shownSensitivity s zone false)) part
       ≡ sensitivities s zone ++ drop (length (sensitivities s zone)) part
 
 pub sensitivities-made : (s : Settings) (zone : MpeZone) (got : ℕ) → allowed s ≡ true → length (sensitivities s zone) ≤ got → Written s zone got
@@ -89,9 +86,9 @@ sensitivities-made s zone got h l =
     groups-length (zoneGroups (managerOf zone) (lowestOf (s .layout) zone) (zoneOf s zone .manager) (zoneOf s zone .member)) (membersIn s zone + 1) in
     let f : length (zoneWords (s .layout) zone (zoneOf s zone .manager) (zoneOf s zone .member)) ≤ got = rw e at l in
     let fits : m ≤ got = rw n at f in
-    let manager : semitonesShown s zone true ≡ zoneOf s zone .manager = rw (e, semitonesShown) in
-    let member : semitonesShown s zone false ≡ zoneOf s zone .member = rw (e, semitonesShown) in
+    let manager : shownSensitivity s zone true ≡ zoneOf s zone .manager = rw e in
+    let member : shownSensitivity s zone false ≡ zoneOf s zone .member = rw e in
     record {
-      count = rw (manager, member, g, e, le-ltb 96 (zoneOf s zone .manager) (z .0), le-ltb 96 (zoneOf s zone .member) (z .1), le-ltb got m fits) (sym n);
-      buffer = λ part. rw (manager, member, g, e, le-ltb 96 (zoneOf s zone .manager) (z .0), le-ltb 96 (zoneOf s zone .member) (z .1), le-ltb got m fits, n);
+      count = rw (manager, member, g, e, z .0, z .1, le-ltb got m fits) (sym n);
+      buffer = λ part. rw (manager, member, g, e, z .0, z .1, le-ltb got m fits, n);
     })

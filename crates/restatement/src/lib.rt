@@ -133,8 +133,7 @@ fn zone_members(settings: Settings, zone: MpeZone) -> u8
     }
 }
 
-// The sensitivity of a zone's manager or members that an end shows after a restatement: the semitones that are set and no cents, or without members
-// the default.
+// The sensitivity of a zone's manager or members that an end shows after a restatement: the one that is set, or without members the default.
 fn shown_sensitivity(settings: Settings, zone: MpeZone, manager: bool) -> MpeSensitivity
     ensures { λ r. ⌜ r ≡ shownSensitivity settings zone manager ⌝ }
 {
@@ -144,18 +143,12 @@ fn shown_sensitivity(settings: Settings, zone: MpeZone, manager: bool) -> MpeSen
         if members == 0 {
             return MpeSensitivity::MANAGER_DEFAULT;
         }
-        return MpeSensitivity {
-            semitones: set.manager,
-            cents: 0,
-        };
+        return set.manager;
     }
     if members == 0 {
         return MpeSensitivity::MEMBER_DEFAULT;
     }
-    MpeSensitivity {
-        semitones: set.member,
-        cents: 0,
-    }
+    set.member
 }
 
 // The mode of a zone that an end shows after a restatement: the one that is set, or without members 3.
@@ -177,13 +170,7 @@ fn write_sensitivities(out: &mut [u32], at: usize, settings: Settings, zone: Mpe
 {
     let manager = shown_sensitivity(settings, zone, true);
     let member = shown_sensitivity(settings, zone, false);
-    let written = zone_sensitivity_messages(
-        settings.layout,
-        zone,
-        manager.semitones,
-        member.semitones,
-        &mut out[at..],
-    );
+    let written = zone_sensitivity_messages(settings.layout, zone, manager, member, &mut out[at..]);
     place_after(at, written)
 }
 
@@ -317,7 +304,7 @@ fn messages_in(bytes: usize) -> usize
 }
 
 // The most messages that settings can take: (7,7).
-const MOST_MESSAGES: usize = 158;
+const MOST_MESSAGES: usize = 174;
 
 // Writes the restatement of these settings: the same messages as bytes, each with its own status byte. What `demand` says is demand 3, of the very
 // bytes written, and `met` that its hypotheses can be met.

@@ -2,9 +2,11 @@
 ghost use mathlib.Core.Path.{_≡_};
 ghost use Rattle.zone_sender.specs.Zone.{writtenRead};
 ghost use Rattle.settings.specs.Settings.{zoneAllowed, channelAllowed, andChannel, channelsAllowed, allowed};
+ghost use Rattle.settings.specs.Limits.{AnsweredWithin};
 ghost use Rattle.settings.specs.Messages.{oneIfAny, messageCount, byteCount, restatedReply};
 use mpe_layout::MadeLayout;
 use mpe_layout::MpeLayout;
+use mpe_sender::sensitivity_allowed;
 use settings::Settings;
 use settings::ZoneSettings;
 use zone_sender::Written;
@@ -16,10 +18,10 @@ fn zone_allowed(members: u8, zone: ZoneSettings) -> bool
     if members == 0 {
         return true;
     }
-    if 96 < zone.manager {
+    if !sensitivity_allowed(zone.manager) {
         return false;
     }
-    if 96 < zone.member {
+    if !sensitivity_allowed(zone.member) {
         return false;
     }
     if zone.mode == 3 {
@@ -104,7 +106,7 @@ fn message_count(layout: MpeLayout) -> usize
 {
     let zones = one_if_any(layout.lower) + one_if_any(layout.upper);
     let members = layout.lower as usize + layout.upper as usize;
-    108 + 4 * zones + 3 * members
+    108 + 5 * zones + 4 * members
 }
 
 // How many bytes it has: three a message, less one for each channel's pressure.
@@ -128,16 +130,18 @@ fn restated_reply(settings: Settings, needed: usize, got: usize) -> Written
     Written::Count(needed)
 }
 
-// What the writer of words answers, for a buffer of so many words.
+// What the writer of words answers, for a buffer of so many words. What `limits` says is the same in the papers' words.
 pub fn words_reply(settings: Settings, got: usize) -> Written
-    ensures { λ r. ⌜ writtenRead r ≡ restatedReply settings (messageCount (settings .layout)) got ⌝ }
+    ensures reply { λ r. ⌜ writtenRead r ≡ restatedReply settings (messageCount (settings .layout)) got ⌝ }
+    ensures limits { λ r. ⌜ AnsweredWithin settings (messageCount (settings .layout)) got (writtenRead r) ⌝ }
 {
     restated_reply(settings, message_count(settings.layout), got)
 }
 
 // What the writer of bytes answers, for a buffer of so many bytes.
 pub fn bytes_reply(settings: Settings, got: usize) -> Written
-    ensures { λ r. ⌜ writtenRead r ≡ restatedReply settings (byteCount (settings .layout)) got ⌝ }
+    ensures reply { λ r. ⌜ writtenRead r ≡ restatedReply settings (byteCount (settings .layout)) got ⌝ }
+    ensures limits { λ r. ⌜ AnsweredWithin settings (byteCount (settings .layout)) got (writtenRead r) ⌝ }
 {
     restated_reply(settings, byte_count(settings.layout), got)
 }

@@ -14,6 +14,7 @@ use Rattle.mpe_layout.specs.Layout.{legal, ofLegal}
 use Rattle.mpe_layout.specs.declared.MpeZone.{MpeZone}
 use Rattle.mpe_layout.specs.declared.MpeZone.the-variants.{Lower, Upper}
 use Rattle.mpe_layout.specs.declared.MpeLayout.{MpeLayout}
+use Rattle.mpe_sender.specs.Writers.{sensitivityAllowed}
 use Rattle.settings.specs.Settings.{zoneOf, membersIn, bendOn, pressureOn, brightnessOn, zoneAllowed, channelAllowed, channelsAllowed, allowed}
 use Rattle.settings.specs.declared.ZoneSettings.{ZoneSettings}
 use Rattle.settings.specs.declared.Settings.{Settings}
@@ -34,14 +35,14 @@ either true x h = inl refl
 either false x h = inr h
 
 zone-limits : (members : ℕ) (z : ZoneSettings) → zoneAllowed members z ≡ true → 0 < members
-    → (z .manager ≤ 96) × (z .member ≤ 96) × ((z .mode ≡ 3) ⊎ (z .mode ≡ 4))
+    → (sensitivityAllowed (z .manager) ≡ true) × (sensitivityAllowed (z .member) ≡ true) × ((z .mode ≡ 3) ⊎ (z .mode ≡ 4))
 unfolding zoneAllowed
 zone-limits members z h some =
     let e : eqb members 0 ≡ false = ne-eqb members 0 (λ n. omega arith) in
-    let p = passed (ltb 96 (z .manager)) _ (rw e at h) in
-    let q = passed (ltb 96 (z .member)) _ (p .1) in (
-      ltb-false 96 (z .manager) (p .0),
-      ltb-false 96 (z .member) (q .0),
+    let p = both (sensitivityAllowed (z .manager)) _ (rw e at h) in
+    let q = both (sensitivityAllowed (z .member)) _ (p .1) in (
+      p .0,
+      q .0,
       ⊎-elim (λ t. inl (eqb-true (z .mode) 3 t)) (λ f. inr (eqb-true (z .mode) 4 f)) (either (eqb (z .mode) 3) (eqb (z .mode) 4) (q .1)),
     )
 
@@ -100,7 +101,7 @@ allowed-legal s h = parts s h .is-legal
 
 -- of a zone with members
 pub allowed-zone : (s : Settings) → allowed s ≡ true → (zone : MpeZone) → 0 < membersIn s zone
-    → (zoneOf s zone .manager ≤ 96) × (zoneOf s zone .member ≤ 96) × ((zoneOf s zone .mode ≡ 3) ⊎ (zoneOf s zone .mode ≡ 4))
+    → (sensitivityAllowed (zoneOf s zone .manager) ≡ true) × (sensitivityAllowed (zoneOf s zone .member) ≡ true) × ((zoneOf s zone .mode ≡ 3) ⊎ (zoneOf s zone .mode ≡ 4))
 allowed-zone s h Lower some = zone-limits (membersIn s Lower) (s .lower) (parts s h .is-lower) some
 allowed-zone s h Upper some = zone-limits (membersIn s Upper) (s .upper) (parts s h .is-upper) some
 

@@ -18,6 +18,8 @@ use Rattle.mpe_layout.specs.declared.MpeZone.the-variants.{Lower, Upper}
 use Rattle.mpe_layout.specs.declared.MpeLayout.{MpeLayout}
 use Rattle.mpe_layout.specs.Layout.{layoutOf, legal, managerOf, leftBeside, withMcm}
 use Rattle.mpe_layout.proofs.Legal.{Bounds, sides, legal-bounds}
+use Rattle.mpe_pitch.specs.declared.MpeSensitivity.{MpeSensitivity}
+use Rattle.mpe_pitch.specs.Pitch.{managerDefault, memberDefault}
 use Rattle.mpe_zones.specs.declared.Zones.{Zones}
 use Rattle.mpe_zones.specs.Zones.{activated, withAnnounced, zonesAnnounced}
 use Rattle.mpe_event.specs.Update.{announced}
@@ -61,13 +63,14 @@ announced-stage e zone v b s =
     (cleared-with (parameterAt e k) (number 0 6) c)
     (announced-zones (zonesOf (e .receiver)) zone v (f .receiver-formed .lawful) b ∙ ap (λ y. withAnnounced y zone v) (s .zones))
 
--- semitones of Lower's manager and members and of Upper's, all with no cents
-abbrev pub semitones : ℕ → ℕ → ℕ → ℕ → List ℕ
-semitones a b c d = a ∷ 0 ∷ b ∷ 0 ∷ c ∷ 0 ∷ d ∷ 0 ∷ []
+-- the sensitivities of Lower's manager and members and of Upper's, as the zones hold them
+abbrev pub slots : MpeSensitivity → MpeSensitivity → MpeSensitivity → MpeSensitivity → List ℕ
+slots a b c d =
+    a .semitones ∷ a .cents ∷ b .semitones ∷ b .cents ∷ c .semitones ∷ c .cents ∷ d .semitones ∷ d .cents ∷ []
 
 -- both zones with their defaults
 abbrev pub defaultZones : MpeLayout → Zones
-defaultZones l = zonesAt l false false (semitones 2 48 2 48)
+defaultZones l = zonesAt l false false (slots managerDefault memberDefault managerDefault memberDefault)
 
 -- whatever they were
 both-active : (z : Zones) (l : List ℕ) → length l ≡ 8

@@ -65,6 +65,11 @@ pressure-bytes k v hk hv =
     (record { group-lt = omega arith; opcode-lt = omega arith; channel-lt = hk; first-lt = omega arith; second-lt = omega arith })
     refl
 
+-- a control change alone
+pub one-bytes : (k a b : ℕ) → k < 16 → a < 0x80 → b < 0x80 → bytes (controlWord k a b ∷ []) ≡ control k a b
+unfolding bytes
+one-bytes k a b hk ha hb = rw (control-bytes k a b hk ha hb)
+
 -- the three messages of a registered parameter's data entry
 pub group-bytes : (k l v : ℕ) → k < 16 → l < 0x80 → v < 0x80 → bytes (rpnGroup k 0 l v) ≡ control k 101 0 ++ control k 100 l ++ control k 6 v
 unfolding bytes

@@ -3,7 +3,7 @@
 use Prim.Native.Nat.{ℕ, zero, suc, _+_, _*_, _<_, _≤_}
 use mathlib.Core.Path.{_≡_, refl, ap, ap₂, sym, _∙_}
 use mathlib.Core.Bool.{true, false}
-use mathlib.Core.List.{List, append-nil}
+use mathlib.Core.List.{List, [], _∷_, append-nil}
 use native.Mathlib.Nat.{suc-mul}
 use native.Mathlib.Numerals.{add-one}
 use native.Mathlib.Omega.{arith}
@@ -16,14 +16,17 @@ use Rattle.mpe_layout.specs.declared.MpeZone.{MpeZone}
 use Rattle.mpe_layout.specs.declared.MpeZone.the-variants.{Lower, Upper}
 use Rattle.mpe_layout.specs.declared.MpeLayout.{MpeLayout}
 use Rattle.mpe_layout.proofs.Legal.{members-le, both-le}
+use Rattle.mpe_pitch.specs.declared.MpeSensitivity.{MpeSensitivity}
+use Rattle.mpe_sender.specs.Writers.{controlWord, rpnGroup, sensitivityGroup, sensitivityAllowed}
 use Rattle.mpe_sender.proofs.Zones.{manager-lt, members-in, lowest-lt}
-use Rattle.zone_sender.specs.Zone.{channelAt, semitonesAt, zoneGroups, groupAt, groups, InRange}
-use Rattle.zone_sender.proofs.Groups.{groups-length, channel-lt, semitones-le}
+use Rattle.mpe_sender.proofs.Entered.{allowed-limits}
+use Rattle.zone_sender.specs.Zone.{groupSize, channelAt, sensitivityAtPlace, zoneGroups, groupAt, groups, InRange}
+use Rattle.zone_sender.proofs.Groups.{groups-length, channel-lt, on-allowed}
 use Rattle.settings.specs.Settings.{zoneOf, membersIn, isMono, bendOn, pressureOn, brightnessOn, allowed}
 use Rattle.settings.specs.Messages.{eachChannel, resetOn, resets, announcement, announcements, sensitivities, modes, deselectionOn, deselections, brightnessController, controlsOn, controls, messages, bytesOf, bytes, restatement, oneIfAny, messageCount, byteCount, CountsHold}
 use Rattle.settings.specs.declared.Settings.{Settings}
 use Rattle.settings.proofs.Allowed.{allowed-legal, allowed-zone, allowed-channel}
-use Rattle.settings.proofs.Bytes.{control-bytes, group-bytes, append-length, each-bytes, bend-bytes, pressure-bytes}
+use Rattle.settings.proofs.Bytes.{control-bytes, one-bytes, group-bytes, append-length, each-bytes, bend-bytes, pressure-bytes}
 
 -- so many messages for each channel
 pub each-length : (f : ℕ → List ℕ) (m : ℕ) → ((k : ℕ) → length (f k) ≡ m) → (n : ℕ) → length (eachChannel f n) ≡ n * m
@@ -42,7 +45,7 @@ resets-length = each-length resetOn 1 (λ k. refl) 16
 pub announcements-length : (l : MpeLayout) → length (announcements l) ≡ 12
 announcements-length l = refl
 
-pub sensitivities-length : (s : Settings) (zone : MpeZone) → length (sensitivities s zone) ≡ 3 * (oneIfAny (membersIn s zone) + membersIn s zone)
+pub sensitivities-length : (s : Settings) (zone : MpeZone) → length (sensitivities s zone) ≡ groupSize * (oneIfAny (membersIn s zone) + membersIn s zone)
 unfolding sensitivities
 sensitivities-length s zone =
     by-test (eqb (membersIn s zone) 0)
@@ -60,7 +63,7 @@ deselections-length = each-length deselectionOn 2 (λ k. refl) 16
 pub controls-length : (s : Settings) → length (controls s) ≡ 48
 controls-length s = each-length (controlsOn s) 3 (λ k. refl) 16
 
--- 108 + 4z + 3m
+-- 108 + 5z + 4m
 pub message-count : (s : Settings) → allowed s ≡ true → length (messages s) ≡ messageCount (s .layout)
 unfolding messages messageCount
 message-count s h =
@@ -85,7 +88,7 @@ parts-count s =
     omega (arith, sensitivities-length s Lower, sensitivities-length s Upper, modes-length s Lower, modes-length s Upper)
 
 -- no legal layout has more than (7,7)
-pub most-messages : (l : MpeLayout) → legal l ≡ true → messageCount l ≤ 158
+pub most-messages : (l : MpeLayout) → legal l ≡ true → messageCount l ≤ 174
 unfolding messageCount
 most-messages l h =
     by-test (eqb (l .lower) 0)
@@ -118,18 +121,28 @@ announcements-bytes l h =
     of-zone : (zone : MpeZone) (members : ℕ) → members ≤ 15 → length (bytes (announcement zone members)) ≡ 9
     of-zone zone members b = ap length (group-bytes (managerOf zone) 6 members (manager-lt zone) (omega arith) (omega arith))
 
-groups-bytes : (manager lowest a b n : ℕ) → InRange (zoneGroups manager lowest a b) n → length (bytes (groups (zoneGroups manager lowest a b) n)) ≡ 9 * n
+group-of-bytes : (k : ℕ) (s : MpeSensitivity) → k < 16 → sensitivityAllowed s ≡ true → length (bytes (sensitivityGroup k s)) ≡ 12
+group-of-bytes k s hk h =
+    let l = allowed-limits s h in
+    append-length (rpnGroup k 0 0 (s .semitones)) (controlWord k 38 (s .cents) ∷ [])
+    ∙ omega (
+      arith,
+      ap length (group-bytes k 0 (s .semitones) hk (omega arith) (omega (arith, l .0))),
+      ap length (one-bytes k 38 (s .cents) hk (omega arith) (omega (arith, l .1))),
+    )
+
+groups-bytes : (manager lowest : ℕ) (a b : MpeSensitivity) (n : ℕ) → InRange (zoneGroups manager lowest a b) n → length (bytes (groups (zoneGroups manager lowest a b) n)) ≡ 12 * n
 unfolding groups bytes
 groups-bytes manager lowest a b zero r = refl
 groups-bytes manager lowest a b (suc n) r =
     let z = zoneGroups manager lowest a b in
-    let q : InRange z n = record { manager-in = r .manager-in; members-in = omega (arith, r .members-in); manager-low = r .manager-low; member-low = r .member-low } in
+    let q : InRange z n = record { manager-in = r .manager-in; members-in = omega (arith, r .members-in); manager-allowed = r .manager-allowed; member-allowed = r .member-allowed } in
     let t : InRange z (n + 1) = rw add-one r in
     append-length (groups z n) (groupAt z n)
     ∙ omega (
       arith,
       groups-bytes manager lowest a b n q,
-      ap length (group-bytes (channelAt manager lowest n) 0 (semitonesAt a b n) (channel-lt z n t) (omega arith) (omega (arith, semitones-le z n (n + 1) t))),
+      group-of-bytes (channelAt manager lowest n) (sensitivityAtPlace a b n) (channel-lt z n t) (on-allowed z n (n + 1) t),
     )
 
 sensitivities-bytes : (s : Settings) (zone : MpeZone) → allowed s ≡ true → length (bytes (sensitivities s zone)) ≡ 3 * length (sensitivities s zone)
@@ -143,7 +156,7 @@ sensitivities-bytes s zone h =
     let z = zoneGroups (managerOf zone) (lowestOf (s .layout) zone) (w .manager) (w .member) in
     let f = allowed-zone s h zone (omega (arith, eqb-false m 0 e)) in
     let r : InRange z (m + 1) =
-    record { manager-in = manager-lt zone; members-in = omega (arith, members-in (s .layout) zone (allowed-legal s h)); manager-low = f .0; member-low = f .1 } in
+    record { manager-in = manager-lt zone; members-in = omega (arith, members-in (s .layout) zone (allowed-legal s h)); manager-allowed = f .0; member-allowed = f .1 } in
     rw e (omega (arith, groups-bytes (managerOf zone) (lowestOf (s .layout) zone) (w .manager) (w .member) (m + 1) r, groups-length z (m + 1))))
 
 modes-bytes : (s : Settings) (zone : MpeZone) → allowed s ≡ true → length (bytes (modes s zone)) ≡ 3 * length (modes s zone)

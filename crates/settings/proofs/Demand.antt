@@ -27,7 +27,7 @@ use Rattle.settings.specs.Demand.{SwitchesAsNew, Arrives, whole, by-valu
 use Rattle.settings.proofs.Allowed.{allowed-zone}
 use Rattle.settings.proofs.Clear.{AsNew}
 use Rattle.settings.proofs.Settle.{Controlled}
-use Rattle.settings.proofs.Restated.{heldBy, shownZones, restated, same-end}
+use Rattle.settings.proofs.Restated.{shownZones, restated, same-end}
 
 -- calls that bring bytes leave the end that these bytes leave
 pub arrives-received : (e : End) {bytes : List ℕ} {calls : List Call} → Arrives bytes calls → after e calls ≡ afterBytes e bytes
@@ -58,16 +58,11 @@ switches e n k hk =
 
 module _ (s : Settings) (h : allowed s ≡ true) where
   -- readings of the zones
-  no-cents : (empty : Bool) (zone : MpeZone) (manager : Bool) → record { semitones = heldBy empty s zone manager .semitones; cents = 0 } ≡ heldBy empty s zone manager
-  no-cents true zone true = refl
-  no-cents true zone false = refl
-  no-cents false zone manager = refl
-
   sensitivity-shown : (zone : MpeZone) (manager : Bool) → sensitivityAt (shownZones s .sensitivity) (slotOf zone manager) ≡ shownSensitivity s zone manager
-  sensitivity-shown Lower true = no-cents (eqb (s .layout .lower) 0) Lower true
-  sensitivity-shown Lower false = no-cents (eqb (s .layout .lower) 0) Lower false
-  sensitivity-shown Upper true = no-cents (eqb (s .layout .upper) 0) Upper true
-  sensitivity-shown Upper false = no-cents (eqb (s .layout .upper) 0) Upper false
+  sensitivity-shown Lower true = refl
+  sensitivity-shown Lower false = refl
+  sensitivity-shown Upper true = refl
+  sensitivity-shown Upper false = refl
 
   abbrev modeFor : Bool → ℕ
   modeFor mono = if mono then 4 else 3

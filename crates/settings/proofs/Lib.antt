@@ -1,5 +1,6 @@
 -- Laws of settings and of the messages that restate them, and then of what an end makes of these.
 pub mod Allowed
+pub mod Limits
 pub mod Bytes
 pub mod Counts
 pub mod Received

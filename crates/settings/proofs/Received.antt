@@ -15,7 +15,7 @@ use Rattle.receiving_end.proofs.Parts.{endAfter, statusOf}
 use Rattle.receiving_end.proofs.Numbers.{control-read}
 use Rattle.receiving_end.proofs.Always.{after-formed}
 use Rattle.settings.specs.Messages.{eachChannel, bytes}
-use Rattle.settings.proofs.Bytes.{bytes-append, control-bytes}
+use Rattle.settings.proofs.Bytes.{bytes-append, one-bytes}
 
 -- an end that receives messages
 abbrev pub received-all : End → List ℕ → End
@@ -26,8 +26,7 @@ received-append e a b = ap (afterBytes e) (bytes-append a b) ∙ bytes-after-byt
 
 pub control-all : (e : End) (k a b : ℕ) → k < 16 → a < 0x80 → b < 0x80
     → received-all e (controlWord k a b ∷ []) ≡ endAfter (withReader e (readerAt (statusOf 0xB k) 0x80)) 0xB k a b
-unfolding bytes
-control-all e k a b hk ha hb = rw (control-bytes k a b hk ha hb) (control-read e k a b hk ha hb)
+control-all e k a b hk ha hb = ap (afterBytes e) (one-bytes k a b hk ha hb) ∙ control-read e k a b hk ha hb
 
 step-formed : (e : End) (b : ℕ) → EndFormed e → EndFormed (stepEnd e b)
 unfolding after

@@ -21,13 +21,13 @@ use Rattle.receiving_end.specs.declared.end.End.{End}
 use Rattle.receiving_end.specs.End.{blankState, parameterAt}
 use Rattle.receiving_end.specs.WellFormed.{EndFormed}
 use Rattle.settings.specs.declared.Settings.{Settings}
-use Rattle.settings.specs.Settings.{zoneOf, membersIn, isMono, semitonesOf, defaultFor, shownSensitivity, bendOn, pressureOn, brightnessOn, allowed}
+use Rattle.settings.specs.Settings.{zoneOf, membersIn, isMono, sensitivityFor, defaultFor, shownSensitivity, bendOn, pressureOn, brightnessOn, allowed}
 use Rattle.settings.specs.Messages.{resets, announcements, sensitivities, modes, deselections, controls, messages}
 use Rattle.settings.proofs.Allowed.{allowed-legal}
 use Rattle.settings.proofs.Received.{received-all, received-append}
 use Rattle.settings.proofs.Stage.{zonesAt, Stage}
 use Rattle.settings.proofs.Clear.{AsNew, reset-stage}
-use Rattle.settings.proofs.Announce.{semitones, defaultZones, announcements-stage}
+use Rattle.settings.proofs.Announce.{slots, defaultZones, announcements-stage}
 use Rattle.settings.proofs.Sense.{sensed, sensedFor, sensitivities-stage, modedFor, modes-stage}
 use Rattle.settings.proofs.Settle.{Settling, settled-stage, Controlled, controlled-stage}
 
@@ -35,13 +35,10 @@ use Rattle.settings.proofs.Settle.{Settling, settled-stage, Controlled,
 abbrev shownMono : Settings → MpeZone → Bool
 shownMono s zone = if eqb (membersIn s zone) 0 then false else isMono (zoneOf s zone)
 
-abbrev shownSemitones : Settings → MpeZone → Bool → ℕ
-shownSemitones s zone manager = shownSensitivity s zone manager .semitones
-
 abbrev pub shownZones : Settings → Zones
 shownZones s =
     zonesAt (s .layout) (shownMono s Lower) (shownMono s Upper)
-    (semitones (shownSemitones s Lower true) (shownSemitones s Lower false) (shownSemitones s Upper true) (shownSemitones s Upper false))
+    (slots (shownSensitivity s Lower true) (shownSensitivity s Lower false) (shownSensitivity s Upper true) (shownSensitivity s Upper false))
 
 sensed-layout : (s : Settings) (zone : MpeZone) (z : Zones) → sensedFor s zone z .layout ≡ z .layout
 sensed-layout s zone z = by-test (eqb (membersIn s zone) 0) (λ t. rw t) (λ t. rw t)
@@ -55,8 +52,8 @@ moded-layout s zone z =
     by-test (eqb (membersIn s zone) 0) (λ t. rw t) (λ t. rw t (mono-layout z zone (isMono (zoneOf s zone))))
 
 -- by which zones are empty
-abbrev pub heldBy : Bool → Settings → MpeZone → Bool → MpeSensitivity
-heldBy empty s zone manager = if empty then defaultFor manager else record { semitones = semitonesOf (zoneOf s zone) manager; cents = 0 }
+abbrev heldBy : Bool → Settings → MpeZone → Bool → MpeSensitivity
+heldBy empty s zone manager = if empty then defaultFor manager else sensitivityFor (zoneOf s zone) manager
 
 abbrev sensedBy : Bool → Settings → MpeZone → Zones → Zones
 sensedBy empty s zone z =
@@ -68,7 +65,7 @@ modedBy empty s zone z = if empty then z else withMono z zone (isMono (zoneOf s 
 zones-by : (s : Settings) (t u : Bool)
     → modedBy u s Upper (modedBy t s Lower (sensedBy u s Upper (sensedBy t s Lower (defaultZones (s .layout)))))
     ≡ zonesAt (s .layout) (if t then false else isMono (s .lower)) (if u then false else isMono (s .upper))
-    (semitones (heldBy t s Lower true .semitones) (heldBy t s Lower false .semitones) (heldBy u s Upper true .semitones) (heldBy u s Upper false .semitones))
+    (slots (heldBy t s Lower true) (heldBy t s Lower false) (heldBy u s Upper true) (heldBy u s Upper false))
 zones-by s true true = refl
 zones-by s true false = refl
 zones-by s false true = refl

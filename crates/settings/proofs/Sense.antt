@@ -1,45 +1,52 @@
 -- Groups C and D: each active zone gets its sensitivities and its mode.
 -- Assumes nothing.
-use Prim.Native.Nat.{ℕ, zero, suc, _+_, _*_, _-_, _/_, _%_, _<_, _≤_}
+use Prim.Native.Nat.{ℕ, zero, suc, _+_, _*_, _-_, _/_, _%_, _^_, _<_, _≤_}
 use mathlib.Core.Path.{_≡_, refl, ap, sym, _∙_, subst}
 use mathlib.Core.Bool.{Bool, true, false}
 use mathlib.Core.List.{List, [], _∷_}
 use native.Mathlib.Omega.{arith}
 use native.Mathlib.Numerals.{add-one}
-use lib.Dec.{eqb}
-use lib.ListN.{set}
-use lib.Seq.{set-set, set-comm}
+use lib.Dec.{eqb, lit<}
+use lib.ListN.{getD, set, length, length-set}
+use lib.Seq.{getD-set-same, getD-set-other, set-set, set-comm}
 use borrow.Author.Tests.{ne-eqb, eq-eqb, eqb-false}
 use Rattle.ump.specs.Choice.{if_then_else_}
-use Rattle.ump.specs.Controller.{rpnNumbered}
+use Rattle.ump.specs.Controller.{rpnOf, rpnNumbered}
 use Rattle.ump.proofs.Cases.{by-test}
-use Rattle.parameter_event.specs.declared.ParameterChange.the-variants.{DataEntryMsb}
+use Rattle.parameter_event.specs.declared.Parameter.the-variants.{Registered}
+use Rattle.parameter_event.specs.declared.ParameterChange.{ParameterChange}
+use Rattle.parameter_event.specs.declared.ParameterChange.the-variants.{DataEntryMsb, DataEntryLsb}
+use Rattle.parameter_event.specs.declared.ParameterEvent.{ParameterEvent}
 use Rattle.parameters.specs.declared.MaybeEvent.the-variants.{Event, NoEvent}
 use Rattle.parameters.specs.declared.ParameterState.{ParameterState}
-use Rattle.parameters.specs.State.{number, withRpn, numberStored, controlled, parameterUpdate}
+use Rattle.parameters.specs.State.{number, withRpn, selectionOf, numberStored, controlled, parameterUpdate}
 use Rattle.parameters.specs.State as parameter
 use Rattle.mpe_layout.specs.declared.MpeZone.{MpeZone}
+use Rattle.mpe_layout.specs.declared.MpeZone.the-variants.{Lower, Upper}
 use Rattle.mpe_layout.specs.declared.MpeLayout.{MpeLayout}
 use Rattle.mpe_layout.specs.Layout.{legal, ofLegal, membersOf, managerOf, lowestOf, lowestOrNone, roleOf}
 use Rattle.mpe_layout.proofs.Legal.{members-le}
 use Rattle.mpe_layout.proofs.Roles.{manager-role, member-role, lowest-role}
+use Rattle.mpe_pitch.specs.declared.MpeSensitivity.{MpeSensitivity}
 use Rattle.mpe_zones.specs.declared.Zones.{Zones}
-use Rattle.mpe_zones.specs.Zones.{withSensitivities, withMono, slotOf, sensitivityPut, sensitivityApplied, roleHeld}
+use Rattle.mpe_zones.specs.Zones.{withSensitivities, withMono, slotOf, sensitivityPut, sensitivityApplied, sensitivityChanged, roleHeld}
 use Rattle.mpe_event.specs.Update.{sensitivityUpdate, isLowest, onMember, plainEvent, modeEvent, modeSet}
 use Rattle.mpe_event.specs.Claims.{roleFor}
 use Rattle.mpe_event.proofs.Kept.{changed-by}
 use Rattle.mpe_receiver.specs.declared.MpeReceiver.{MpeReceiver}
 use Rattle.mpe_receiver.specs.State.{zonesOf}
 use Rattle.mpe_receiver.specs.Receive.{stored, receivedByFields}
-use Rattle.mpe_sender.specs.Writers.{controlWord, sensitivityGroup}
+use Rattle.mpe_sender.specs.Writers.{controlWord, rpnGroup, sensitivityGroup, sensitivityAllowed}
 use Rattle.mpe_sender.proofs.Zones.{manager-lt, members-in, lowest-lt}
-use Rattle.zone_sender.specs.Zone.{zoneGroups, channelAt, semitonesAt, groupAt, groups, zoneWords}
+use Rattle.mpe_sender.proofs.Entered.{allowed-limits}
+use Rattle.zone_sender.specs.Zone.{zoneGroups, channelAt, sensitivityAtPlace, groupAt, groups, zoneWords}
 use Rattle.receiving_end.specs.declared.end.End.{End}
+use Rattle.byte_reader.specs.declared.Reader.{Reader}
 use Rattle.byte_reader.specs.Reader.{readerAt}
-use Rattle.receiving_end.specs.End.{withReader, withReceiver, withParameter, parameterAt}
+use Rattle.receiving_end.specs.End.{blankState, withReader, withReceiver, withParameter, parameterAt}
 use Rattle.receiving_end.specs.Lists.{afterBytes}
 use Rattle.receiving_end.proofs.Parts.{statusOf}
-use Rattle.receiving_end.proofs.Numbers.{entryOf, entry-read}
+use Rattle.receiving_end.proofs.Numbers.{entry-read}
 use Rattle.settings.specs.declared.Settings.{Settings}
 use Rattle.settings.specs.Settings.{zoneOf, membersIn, isMono, allowed}
 use Rattle.settings.specs.Messages.{bytes, sensitivities, modes}
@@ -51,67 +58,162 @@ use Rattle.settings.proofs.Stage.{cleared-with, Stage, stage-at}
 held : (l : MpeLayout) (k : ℕ) → legal l ≡ true → k < 16 → roleHeld l k ≡ roleOf l k
 held l k h hk = let m : k % 16 ≡ k = omega arith in rw (h, m)
 
--- RPN 0 with a data entry
-entry-put : (l : List ℕ) (k v : ℕ) → v < 128 → sensitivityApplied l k (DataEntryMsb v) ≡ sensitivityPut l k v 0
+-- a data entry of RPN 0: controller 6 and its upper half, or 38 and its lower
+abbrev entryController : Bool → ℕ
+entryController true = 6
+entryController false = 38
+
+abbrev entryChange : Bool → ℕ → ParameterChange
+entryChange true v = DataEntryMsb v
+entryChange false v = DataEntryLsb v
+
+abbrev entryEvent : Bool → ℕ → ParameterEvent
+entryEvent upper v = record { parameter = Registered (rpnOf 0 0); change = entryChange upper v }
+
+-- on the manager or on a member of a zone it changes the one sensitivity
+changes-role : (r : MpeReceiver) (k : ℕ) (zone : MpeZone) (manager : Bool) (change : ParameterChange) → legal (r .layout) ≡ true → k < 16
+    → roleOf (r .layout) k ≡ roleFor zone manager
+    → sensitivityUpdate (zonesOf r) (roleHeld (r .layout) k) change .zones ≡ sensitivityChanged (zonesOf r) zone manager change
+changes-role r k zone manager change h hk role =
+    ap (λ ro. sensitivityUpdate (zonesOf r) ro change .zones) (held (r .layout) k h hk ∙ role)
+    ∙ ap (λ u. u .zones) (changed-by (zonesOf r) zone manager change)
+
+entry-acts : (r : MpeReceiver) (k v : ℕ) (zone : MpeZone) (manager upper : Bool) → legal (r .layout) ≡ true → k < 16
+    → roleOf (r .layout) k ≡ roleFor zone manager
+    → zonesOf (receivedByFields r (Event (entryEvent upper v)) 0xB k (entryController upper) v .receiver) ≡ sensitivityChanged (zonesOf r) zone manager (entryChange upper v)
+unfolding receivedByFields stored rpnNumbered
+entry-acts r k v zone manager true h hk role = changes-role r k zone manager (DataEntryMsb v) h hk role
+entry-acts r k v zone manager false h hk role = changes-role r k zone manager (DataEntryLsb v) h hk role
+
+-- the zones with another sensitivity of a zone's manager or members
+abbrev pub sensed : Zones → MpeZone → Bool → MpeSensitivity → Zones
+sensed z zone manager s =
+    withSensitivities z (sensitivityPut (z .sensitivity) (slotOf zone manager) (s .semitones) (s .cents))
+
+-- a sensitivity put over another
+put-over : (l : List ℕ) (k a b c d : ℕ) → sensitivityPut (sensitivityPut l k a b) k c d ≡ sensitivityPut l k c d
+put-over l k a b c d =
+    ap (λ x. set x (k + 1) d) (set-comm (set l k a) (k + 1) k b c (λ p. omega arith) ∙ ap (λ x. set x (k + 1) b) (set-set l k a c))
+    ∙ set-set (set l k c) (k + 1) b d
+
+-- the upper half is entered, and there are no cents; then the lower half, and the semitones stay
+upper-put : (l : List ℕ) (k v : ℕ) → v < 128 → sensitivityApplied l k (DataEntryMsb v) ≡ sensitivityPut l k v 0
 unfolding rpnNumbered
-entry-put l k v h =
+upper-put l k v h =
     let s : v % 128 * 128 / 128 ≡ v = omega arith in
     let c : v % 128 * 128 % 128 ≡ 0 = omega arith in
     rw (s, c)
 
-entry-acts : (r : MpeReceiver) (k v : ℕ) (zone : MpeZone) (manager : Bool) → legal (r .layout) ≡ true → k < 16 → v < 128
-    → roleOf (r .layout) k ≡ roleFor zone manager
-    → zonesOf (receivedByFields r (Event (entryOf 0 v)) 0xB k 6 v .receiver) ≡ withSensitivities (zonesOf r) (sensitivityPut (r .sensitivity) (slotOf zone manager) v 0)
-unfolding receivedByFields stored rpnNumbered
-entry-acts r k v zone manager h hk hv role =
-    ap (λ ro. sensitivityUpdate (zonesOf r) ro (DataEntryMsb v) .zones) (held (r .layout) k h hk ∙ role)
-    ∙ ap (λ u. u .zones) (changed-by (zonesOf r) zone manager (DataEntryMsb v))
-    ∙ ap (withSensitivities (zonesOf r)) (entry-put (r .sensitivity) (slotOf zone manager) v hv)
+lower-put : (l : List ℕ) (k v c : ℕ) → k + 1 < length l → v < 128 → c < 128 → sensitivityApplied (sensitivityPut l k v 0) k (DataEntryLsb c) ≡ sensitivityPut l k v c
+unfolding rpnNumbered
+lower-put l k v c hk hv hc =
+    let a : getD (sensitivityPut l k v 0) k 0 ≡ v =
+    getD-set-other (set l k v) (k + 1) k 0 0 (λ p. omega arith) ∙ getD-set-same l k v 0 (omega arith) in
+    let b : getD (sensitivityPut l k v 0) (k + 1) 0 ≡ 0 = getD-set-same (set l k v) (k + 1) 0 0 (simp length-set hk) in
+    let s : ((v * 128 + 0) % 2 ^ 14 / 2 ^ 7 * 2 ^ 7 + c % 2 ^ 7) / 2 ^ 7 ≡ v = omega arith in
+    let t : ((v * 128 + 0) % 2 ^ 14 / 2 ^ 7 * 2 ^ 7 + c % 2 ^ 7) % 2 ^ 7 ≡ c = omega arith in
+    rw (a, b, s, t) (put-over l k v 0 v c)
 
--- the zones with other sensitivities of a zone's manager or members
-abbrev pub sensed : Zones → MpeZone → Bool → ℕ → Zones
-sensed z zone manager v = withSensitivities z (sensitivityPut (z .sensitivity) (slotOf zone manager) v 0)
+slot-lt : (zone : MpeZone) (manager : Bool) → slotOf zone manager + 1 < 8
+slot-lt Lower true = lit< tt
+slot-lt Lower false = lit< tt
+slot-lt Upper true = lit< tt
+slot-lt Upper false = lit< tt
 
--- one group on the way
-group-stage : {z : Zones} (e : End) (k v : ℕ) (zone : MpeZone) (manager : Bool) → k < 16 → v < 128
-    → roleOf (z .layout) k ≡ roleFor zone manager → Stage z e → Stage (sensed z zone manager v) (received-all e (sensitivityGroup k v))
-group-stage e k v zone manager hk hv role s =
-    let f = s .formed in
-    let c = s .cleared k hk in
-    let r = e .receiver in
-    stage-at e (received-all e (sensitivityGroup k v)) k (readerAt (statusOf 0xB k) 0x80) (withRpn (parameterAt e k) (number 0 0)) (receivedByFields r (Event (entryOf 0 v)) 0xB k 6 v .receiver) s
-    (bytes-formed e (bytes (sensitivityGroup k v)) f)
-    (ap (afterBytes e) (group-bytes k 0 v hk (omega arith) hv) ∙ entry-read e k 0 v hk (omega arith) hv (f .channels) (c .rpn-on) refl)
-    (cleared-with (parameterAt e k) (number 0 0) c)
-    (entry-acts r k v zone manager (f .receiver-formed .lawful) hk hv (ap (λ z. roleOf (z .layout) k) (s .zones) ∙ role)
-    ∙ ap (λ z. sensed z zone manager v) (s .zones))
+-- the lower half, where RPN 0 is selected
+lower-entered : (p : ParameterState) (v : ℕ) → p .«rpn_on» ≡ true
+    → parameter.updateByFields (withRpn p (number 0 0)) 0xB 38 v ≡ parameterUpdate (withRpn p (number 0 0)) (Event (entryEvent false v))
+unfolding controlled selectionOf
+lower-entered p v on = rw on
 
--- the same put again
-put-again : (l : List ℕ) (k v : ℕ) → sensitivityPut (sensitivityPut l k v 0) k v 0 ≡ sensitivityPut l k v 0
-put-again l k v =
-    ap (λ x. set x (k + 1) 0) (set-comm (set l k v) (k + 1) k 0 v (λ p. omega arith) ∙ ap (λ x. set x (k + 1) 0) (set-set l k v v))
-    ∙ set-set (set l k v) (k + 1) 0 0
+-- one group on the way: RPN 0 with the semitones, then the cents
+module _ {z : Zones} (e : End) (k : ℕ) (s : MpeSensitivity) (zone : MpeZone) (manager : Bool) (hk : k < 16) (h : sensitivityAllowed s ≡ true)
+    (role : roleOf (z .layout) k ≡ roleFor zone manager) (st : Stage z e) where
+  abbrev v : ℕ
+  v = s .semitones
+
+  abbrev c : ℕ
+  c = s .cents
+
+  abbrev rd : Reader
+  rd = readerAt (statusOf 0xB k) 0x80
+
+  -- after the semitones
+  abbrev e1 : End
+  e1 = received-all e (rpnGroup k 0 0 v)
+
+  abbrev q : ParameterState
+  q = withRpn (parameterAt e k) (number 0 0)
+
+  abbrev z1 : Zones
+  z1 = sensed z zone manager (record { semitones = v; cents = 0 })
+
+  v-lt : v < 128
+  v-lt = omega (arith, allowed-limits s h .0)
+
+  c-lt : c < 128
+  c-lt = omega (arith, allowed-limits s h .1)
+
+  semitones-read : e1 ≡ withReceiver (withParameter (withReader e rd) k q) (receivedByFields (e .receiver) (Event (entryEvent true v)) 0xB k 6 v .receiver)
+  semitones-read =
+      ap (afterBytes e) (group-bytes k 0 v hk (omega arith) v-lt)
+      ∙ entry-read e k 0 v hk (omega arith) v-lt (st .formed .channels) (st .cleared k hk .rpn-on) refl
+
+  semitones-stage : Stage z1 e1
+  semitones-stage =
+      stage-at e e1 k rd q (receivedByFields (e .receiver) (Event (entryEvent true v)) 0xB k 6 v .receiver) st
+      (bytes-formed e (bytes (rpnGroup k 0 0 v)) (st .formed))
+      semitones-read
+      (cleared-with (parameterAt e k) (number 0 0) (st .cleared k hk))
+      (entry-acts (e .receiver) k v zone manager true (st .formed .receiver-formed .lawful) hk (ap (λ z. roleOf (z .layout) k) (st .zones) ∙ role)
+      ∙ ap (λ z. sensitivityChanged z zone manager (DataEntryMsb v)) (st .zones)
+      ∙ ap (withSensitivities z) (upper-put (z .sensitivity) (slotOf zone manager) v v-lt))
+
+  selected : parameterAt e1 k ≡ q
+  selected =
+      ap (λ x. parameterAt x k) semitones-read ∙ getD-set-same (e .parameters) k q blankState (omega (arith, st .formed .channels))
+
+  -- after the cents
+  cents-read : received-all e1 (controlWord k 38 c ∷ []) ≡ withReceiver (withParameter (withReader e1 rd) k q) (receivedByFields (e1 .receiver) (Event (entryEvent false c)) 0xB k 38 c .receiver)
+  cents-read =
+      control-all e1 k 38 c hk (omega arith) c-lt
+      ∙ ap (λ p. withReceiver (withParameter (withReader e1 rd) k (parameter.updateByFields p 0xB 38 c .state)) (receivedByFields (e1 .receiver) (parameter.updateByFields p 0xB 38 c .event) 0xB k 38 c .receiver)) selected
+      ∙ ap (λ u. withReceiver (withParameter (withReader e1 rd) k (u .state)) (receivedByFields (e1 .receiver) (u .event) 0xB k 38 c .receiver)) (lower-entered (parameterAt e k) c (st .cleared k hk .rpn-on))
+
+  sized : length (z .sensitivity) ≡ 8
+  sized = ap (λ z. length (z .sensitivity)) (sym (st .zones)) ∙ st .formed .receiver-formed .sensitivities
+
+  group-stage : Stage (sensed z zone manager s) (received-all e (sensitivityGroup k s))
+  group-stage =
+      subst (Stage (sensed z zone manager s)) (sym (received-append e (rpnGroup k 0 0 v) (controlWord k 38 c ∷ [])))
+      (stage-at e1 (received-all e1 (controlWord k 38 c ∷ [])) k rd q (receivedByFields (e1 .receiver) (Event (entryEvent false c)) 0xB k 38 c .receiver) semitones-stage
+      (bytes-formed e1 (bytes (controlWord k 38 c ∷ [])) (semitones-stage .formed))
+      cents-read
+      (cleared-with (parameterAt e k) (number 0 0) (st .cleared k hk))
+      (entry-acts (e1 .receiver) k c zone manager false (semitones-stage .formed .receiver-formed .lawful) hk (ap (λ z. roleOf (z .layout) k) (semitones-stage .zones) ∙ role)
+      ∙ ap (λ z. sensitivityChanged z zone manager (DataEntryLsb c)) (semitones-stage .zones)
+      ∙ ap (withSensitivities z) (lower-put (z .sensitivity) (slotOf zone manager) v c (omega (arith, sized, slot-lt zone manager)) v-lt c-lt)))
 
 -- the zones after n groups: the manager's, then the members'
-sensedBy : Zones → MpeZone → ℕ → ℕ → ℕ → Zones
+sensedBy : Zones → MpeZone → MpeSensitivity → MpeSensitivity → ℕ → Zones
 sensedBy z zone a b zero = z
 sensedBy z zone a b (suc zero) = sensed z zone true a
 sensedBy z zone a b (suc (suc n)) = sensed (sensed z zone true a) zone false b
 
-sensed-layout : (z : Zones) (zone : MpeZone) (a b n : ℕ) → sensedBy z zone a b n .layout ≡ z .layout
+sensed-layout : (z : Zones) (zone : MpeZone) (a b : MpeSensitivity) (n : ℕ) → sensedBy z zone a b n .layout ≡ z .layout
 unfolding sensedBy
 sensed-layout z zone a b zero = refl
 sensed-layout z zone a b (suc zero) = refl
 sensed-layout z zone a b (suc (suc n)) = refl
 
 -- one member more
-one-member : (z : Zones) (zone : MpeZone) (a b n : ℕ) → sensed (sensedBy z zone a b (suc n)) zone false b ≡ sensed (sensed z zone true a) zone false b
+one-member : (z : Zones) (zone : MpeZone) (a b : MpeSensitivity) (n : ℕ) → sensed (sensedBy z zone a b (suc n)) zone false b ≡ sensed (sensed z zone true a) zone false b
 unfolding sensedBy
 one-member z zone a b zero = refl
 one-member z zone a b (suc n) =
-    ap (withSensitivities z) (put-again (sensitivityPut (z .sensitivity) (slotOf zone true) a 0) (slotOf zone false) b)
+    ap (withSensitivities z) (put-over (sensitivityPut (z .sensitivity) (slotOf zone true) (a .semitones) (a .cents)) (slotOf zone false) (b .semitones) (b .cents) (b .semitones) (b .cents))
 
-module _ (z : Zones) (zone : MpeZone) (a b : ℕ) (h : legal (z .layout) ≡ true) (some : 0 < membersOf (z .layout) zone) (ha : a < 128) (hb : b < 128) where
+module _ (z : Zones) (zone : MpeZone) (a b : MpeSensitivity) (h : legal (z .layout) ≡ true) (some : 0 < membersOf (z .layout) zone) (ha : sensitivityAllowed a ≡ true) (hb : sensitivityAllowed b ≡ true) where
   abbrev first : ℕ → List ℕ
   first n = groups (zoneGroups (managerOf zone) (lowestOf (z .layout) zone) a b) n
 
@@ -119,14 +221,14 @@ module _ (z : Zones) (zone : MpeZone) (a b : ℕ) (h : legal (z .layout) ≡ tru
   at n = groupAt (zoneGroups (managerOf zone) (lowestOf (z .layout) zone) a b) n
 
   at-member : (n : ℕ) → at (suc n) ≡ sensitivityGroup (lowestOf (z .layout) zone + n) b
-  unfolding channelAt semitonesAt
+  unfolding channelAt sensitivityAtPlace
   at-member n =
       let e : eqb (suc n) 0 ≡ false = ne-eqb (suc n) 0 (λ p. omega arith) in
       let m : suc n - 1 ≡ n = omega arith in
       rw (e, m)
 
   groups-stage : (n : ℕ) (e : End) → n ≤ membersOf (z .layout) zone + 1 → Stage z e → Stage (sensedBy z zone a b n) (received-all e (first n))
-  unfolding groups bytes afterBytes sensedBy channelAt semitonesAt
+  unfolding groups bytes afterBytes sensedBy channelAt sensitivityAtPlace
   groups-stage zero e le s = s
   groups-stage (suc zero) e le s =
       group-stage e (managerOf zone) a zone true (manager-lt zone) ha (manager-role (z .layout) zone h some) s
@@ -170,8 +272,8 @@ sensitivities-stage {z} s zone e h same st =
     (words-stage z zone a b
     (subst (λ l. legal l ≡ true) (sym same) (allowed-legal s h))
     (subst (λ l. 0 < membersOf l zone) (sym same) some)
-    (omega (arith, limits .0))
-    (omega (arith, limits .1))
+    (limits .0)
+    (limits .1)
     e st)))
 
 -- 126 and 127 on the lowest member of a zone set its mode

@@ -98,12 +98,12 @@ bytes (w ∷ ws) = bytesOf w ++ bytes ws
 abbrev pub restatement : Settings → List ℕ
 restatement s = bytes (messages s)
 
--- z active zones and m members in all: 108 + 4z + 3m messages
+-- z active zones and m members in all: 108 + 5z + 4m messages (document 02, 2026-01)
 abbrev pub oneIfAny : ℕ → ℕ
 oneIfAny members = if eqb members 0 then 0 else 1
 
 unfoldable pub messageCount : MpeLayout → ℕ
-messageCount l = 108 + 4 * (oneIfAny (l .lower) + oneIfAny (l .upper)) + 3 * (l .lower + l .upper)
+messageCount l = 108 + 5 * (oneIfAny (l .lower) + oneIfAny (l .upper)) + 4 * (l .lower + l .upper)
 
 -- three bytes each, less one for each of the sixteen pressures
 unfoldable pub byteCount : MpeLayout → ℕ

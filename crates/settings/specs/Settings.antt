@@ -9,12 +9,13 @@ use Rattle.mpe_layout.specs.declared.MpeZone.the-variants.{Lower, Upper}
 use Rattle.mpe_layout.specs.Layout.{layoutOf, legal, membersOf}
 use Rattle.mpe_pitch.specs.declared.MpeSensitivity.{MpeSensitivity}
 use Rattle.mpe_pitch.specs.Pitch.{managerDefault, memberDefault}
+use Rattle.mpe_sender.specs.Writers.{sensitivityAllowed}
 use Rattle.settings.specs.declared.ZoneSettings.{ZoneSettings}
 use Rattle.settings.specs.declared.Settings.{Settings}
 
 -- what a zone without members shows: the default sensitivities (M1-100 2.2.5) and mode 3
 abbrev pub newZone : ZoneSettings
-newZone = record { manager = managerDefault .semitones; member = memberDefault .semitones; mode = 3 }
+newZone = record { manager = managerDefault; member = memberDefault; mode = 3 }
 
 -- no zone, and every channel at rest
 abbrev pub newSettings : Settings
@@ -39,10 +40,10 @@ membersIn s zone = membersOf (s .layout) zone
 abbrev pub isMono : ZoneSettings → Bool
 isMono z = eqb (z .mode) 4
 
--- the sensitivity that a zone shows: the settings' semitones and no cents, or in an empty zone 2/0 and 48/0 (document 01, "Demand 3 in detail")
-abbrev pub semitonesOf : ZoneSettings → Bool → ℕ
-semitonesOf z true = z .manager
-semitonesOf z false = z .member
+-- the sensitivity that a zone shows: the settings', or in an empty zone 2/0 and 48/0 (document 01, "Demand 3 in detail")
+abbrev pub sensitivityFor : ZoneSettings → Bool → MpeSensitivity
+sensitivityFor z true = z .manager
+sensitivityFor z false = z .member
 
 abbrev pub defaultFor : Bool → MpeSensitivity
 defaultFor true = managerDefault
@@ -50,7 +51,7 @@ defaultFor false = memberDefault
 
 abbrev pub shownSensitivity : Settings → MpeZone → Bool → MpeSensitivity
 shownSensitivity s zone manager =
-    if eqb (membersIn s zone) 0 then defaultFor manager else record { semitones = semitonesOf (zoneOf s zone) manager; cents = 0 }
+    if eqb (membersIn s zone) 0 then defaultFor manager else sensitivityFor (zoneOf s zone) manager
 
 -- the mode that a zone shows: the settings', or in an empty zone 3
 abbrev pub shownMode : Settings → MpeZone → ℕ
@@ -66,14 +67,13 @@ pressureOn s k = getD (s .pressure) k 0
 abbrev pub brightnessOn : Settings → ℕ → ℕ
 brightnessOn s k = getD (s .brightness) k 0
 
--- semitones 0 to 96 (M1-100 2.2.5), and mode 3 or 4; the fields of an empty zone are not read
+-- sensitivities that may be sent (M1-100 2.2.5; document 02, 2026-01), and mode 3 or 4; the fields of an empty zone are not read
 unfoldable pub zoneAllowed : ℕ → ZoneSettings → Bool
 zoneAllowed members z =
     if eqb members 0 then true else
-    if ltb 96 (z .manager) then false else
-    if ltb 96 (z .member) then false else
-    if eqb (z .mode) 3 then true else
-    eqb (z .mode) 4
+    if sensitivityAllowed (z .manager) then
+    (if sensitivityAllowed (z .member) then (if eqb (z .mode) 3 then true else eqb (z .mode) 4) else false)
+    else false
 
 -- bend 0 to 0x3FFF, pressure and brightness 0 to 127
 unfoldable pub channelAllowed : ℕ → ℕ → ℕ → Bool

@@ -5,10 +5,11 @@ ghost use Rattle.settings.specs.Settings.{newZone, newSettings, allowed}
 use mpe_layout::MpeLayout;
 use mpe_pitch::MpeSensitivity;
 
-// What is set for a zone: semitones 0 to 96 of its manager and of its members, and mode 3 or 4. Of a zone without members nothing is read.
+// What is set for a zone: the sensitivities of its manager and of its members, semitones 0 to 96 and cents 0 to 99, and mode 3 or 4. Of a zone
+// without members nothing is read.
 pub struct ZoneSettings {
-    pub manager: u8,
-    pub member: u8,
+    pub manager: MpeSensitivity,
+    pub member: MpeSensitivity,
     pub mode: u8,
 }
 
@@ -27,11 +28,9 @@ impl ZoneSettings {
     fn new() -> ZoneSettings
         ensures { λ r. ⌜ r ≡ newZone ⌝ }
     {
-        let manager = MpeSensitivity::MANAGER_DEFAULT;
-        let member = MpeSensitivity::MEMBER_DEFAULT;
         ZoneSettings {
-            manager: manager.semitones,
-            member: member.semitones,
+            manager: MpeSensitivity::MANAGER_DEFAULT,
+            member: MpeSensitivity::MEMBER_DEFAULT,
             mode: 3,
         }
     }

@@ -1,6 +1,7 @@
 -- Groups of messages at the front of a buffer, and one group more behind those that are written.
 -- Assumes nothing.
 use mathlib.Core.Path.{_≡_, refl, _∙_}
+use mathlib.Core.Bool.{true}
 use mathlib.Core.List.{List, [], _∷_, _++_, append-assoc, append-nil}
 use Prim.Native.Nat.{ℕ, zero, suc, _+_, _*_, _-_, _<_, _≤_}
 use native.Mathlib.Nat.{le-refl, mod-eq-of-lt}
@@ -9,29 +10,31 @@ use native.Mathlib.Omega.{arith}
 use lib.Dec.{eqb}
 use lib.ListN.{length, take, drop, set, length-append, length-drop}
 use lib.Seq.{take-at, drop-at, drop-drop, take-all, drop-length}
-use borrow.Author.Tests.{le-ltb, eqb-false}
+use borrow.Author.Tests.{eqb-false}
 use borrow.Rule.Slice.PartMut.{midOf, putMid, post-is}
 use Rattle.ump.specs.Outcome.{given, outOfRange}
 use Rattle.ump.specs.Packet.{packetValue}
 use Rattle.ump.proofs.Cases.{by-test}
-use Rattle.mpe_sender.specs.Writers.{sensitivityGroup, sensitivityMessages}
-use Rattle.zone_sender.specs.Zone.{groupSize, channelAt, semitonesAt, groupAt, InRange, groups}
+use Rattle.mpe_pitch.specs.declared.MpeSensitivity.{MpeSensitivity}
+use Rattle.mpe_sender.specs.Writers.{sensitivityGroup, sensitivityAllowed, sensitivityMessages}
+use Rattle.zone_sender.specs.Zone.{groupSize, channelAt, sensitivityAtPlace, groupAt, InRange, groups}
 use Rattle.zone_sender.specs.declared.ZoneGroups.{ZoneGroups}
 
-pub group-length : (channel semitones : ℕ) → length (sensitivityGroup channel semitones) ≡ groupSize
-group-length channel semitones = refl
+pub group-length : (channel : ℕ) (s : MpeSensitivity) → length (sensitivityGroup channel s) ≡ groupSize
+group-length channel s = refl
 
 pub groups-length : (z : ZoneGroups) (n : ℕ) → length (groups z n) ≡ groupSize * n
 unfolding groups
 groups-length z zero = refl
 groups-length z (suc n) = simp (length-append, group-length) (omega (arith, groups-length z n))
 
--- three words at the front
-pub three : (xs : List ℕ) (a b c : ℕ) → 3 ≤ length xs → set (set (set xs 0 a) 1 b) 2 c ≡ a ∷ b ∷ c ∷ drop 3 xs
-three [] a b c h = absurd (omega arith)
-three (x ∷ []) a b c h = absurd (omega arith)
-three (x ∷ y ∷ []) a b c h = absurd (omega arith)
-three (x ∷ y ∷ z ∷ zs) a b c h = refl
+-- a group's words at the front
+pub at-front : (xs : List ℕ) (a b c d : ℕ) → groupSize ≤ length xs → set (set (set (set xs 0 a) 1 b) 2 c) 3 d ≡ a ∷ b ∷ c ∷ d ∷ drop groupSize xs
+at-front [] a b c d h = absurd (omega arith)
+at-front (x ∷ []) a b c d h = absurd (omega arith)
+at-front (x ∷ y ∷ []) a b c d h = absurd (omega arith)
+at-front (x ∷ y ∷ z ∷ []) a b c d h = absurd (omega arith)
+at-front (x ∷ y ∷ z ∷ w ∷ zs) a b c d h = refl
 
 -- the part from a on is what lies there, and ys in its place end the list
 tail-mid : (a : ℕ) (xs : List ℕ) → midOf a (length xs - a) xs ≡ drop a xs
@@ -58,21 +61,19 @@ groups-more z k xs₀ xs ys h e y =
     let m : groupSize * suc k ≡ groupSize * k + groupSize = omega arith in
     rw (add-one, m) (grown xs₀ xs (groups z k) (groupAt z k) ys (groupSize * k) groupSize (groups-length z k) h e y)
 
--- the words that are given for a channel and allowed semitones are its group
-pub group-words : (channel semitones a b c : ℕ) → channel < 16 → semitones ≤ 96 → given (a ∷ b ∷ c ∷ []) ≡ sensitivityMessages channel semitones → a ∷ b ∷ c ∷ [] ≡ sensitivityGroup channel semitones
-unfolding sensitivityMessages
-group-words channel semitones a b c h s e =
-    let f : given (a ∷ b ∷ c ∷ []) ≡ given (sensitivityGroup channel semitones) = rw (le-ltb 96 semitones s, mod-eq-of-lt h) at e in
+-- the words that are given for a channel and an allowed sensitivity are its group
+pub group-words : (channel : ℕ) (s : MpeSensitivity) (words : List ℕ) → channel < 16 → sensitivityAllowed s ≡ true → given words ≡ sensitivityMessages channel s → words ≡ sensitivityGroup channel s
+group-words channel s words h t e =
+    let f : given words ≡ given (sensitivityGroup channel s) = rw (t, mod-eq-of-lt h) at e in
     cc
 
-pub group-made : (channel semitones : ℕ) → semitones ≤ 96 → outOfRange ≡ sensitivityMessages channel semitones → ⊥
-unfolding sensitivityMessages
-group-made channel semitones s e =
-    let f : outOfRange ≡ given (sensitivityGroup (packetValue channel) semitones) = rw (le-ltb 96 semitones s) at e in
+pub group-made : (channel : ℕ) (s : MpeSensitivity) → sensitivityAllowed s ≡ true → outOfRange ≡ sensitivityMessages channel s → ⊥
+group-made channel s t e =
+    let f : outOfRange ≡ given (sensitivityGroup (packetValue channel) s) = rw t at e in
     let z : _≡_ {A = ℕ} 0 1 = cc in
     omega arith
 
--- the k-th channel is one, and its semitones are allowed
+-- the k-th channel is one, and its sensitivity is allowed
 pub channel-lt : (z : ZoneGroups) (k : ℕ) → InRange z (k + 1) → channelAt (z .manager) (z .lowest) k < 16
 unfolding channelAt
 channel-lt z k r =
@@ -80,6 +81,6 @@ channel-lt z k r =
     (λ e. rw e (r .manager-in))
     (λ e. rw e (omega (arith, r .members-in, eqb-false k 0 e)))
 
-pub semitones-le : (z : ZoneGroups) (k n : ℕ) → InRange z n → semitonesAt (z .«at_manager») (z .«at_member») k ≤ 96
-unfolding semitonesAt
-semitones-le z k n r = by-test (eqb k 0) (λ e. rw e (r .manager-low)) (λ e. rw e (r .member-low))
+pub on-allowed : (z : ZoneGroups) (k n : ℕ) → InRange z n → sensitivityAllowed (sensitivityAtPlace (z .«at_manager») (z .«at_member») k) ≡ true
+unfolding sensitivityAtPlace
+on-allowed z k n r = by-test (eqb k 0) (λ e. rw e (r .manager-allowed)) (λ e. rw e (r .member-allowed))

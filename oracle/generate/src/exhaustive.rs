@@ -2,6 +2,7 @@
 
 use crate::calls::range;
 use crate::items::Items;
+use crate::settings::{Channel, Settings, Zone};
 use crate::values::is_legal;
 
 /// Sensitivities for the pitch functions: nothing, the usual ones, those whose range meets exact
@@ -22,6 +23,17 @@ const SENSITIVITIES: [[u8; 2]; 13] = [
     [127, 127],
 ];
 
+/// Sensitivities of a manager and of members for item 53: at their limits, and one past each.
+const ZONES: [[u8; 4]; 7] = [
+    [2, 0, 48, 0],
+    [0, 1, 96, 99],
+    [96, 99, 0, 50],
+    [97, 0, 48, 0],
+    [2, 100, 48, 0],
+    [2, 0, 97, 0],
+    [2, 0, 48, 100],
+];
+
 /// Prints the table `name`; none for a name that is no table.
 pub fn trace(name: &str) -> Option<()> {
     let mut items = Items::printed(u64::MAX);
@@ -32,6 +44,8 @@ pub fn trace(name: &str) -> Option<()> {
         "words" => words(&mut items),
         "announcements" => announcements(&mut items),
         "classes" => classes(&mut items),
+        "sensitivities" => sensitivities(&mut items),
+        "settings" => settings(&mut items),
         "pitch" => pitch(&mut items),
         _ => return None,
     }
@@ -130,6 +144,79 @@ fn classes(items: &mut Items) {
     for kind in (0..=21).chain([128, 255]) {
         for flags in 0..8 {
             items.put(&[0x50, kind, flags >> 2, flags >> 1 & 1, flags & 1]);
+        }
+    }
+}
+
+/// Item 52: every semitones and cents, and every channel as given. Item 53, over every pair and
+/// zone: every length of the buffer, and lengths beside the needed one with each of `ZONES`.
+fn sensitivities(items: &mut Items) {
+    for [semitones, cents] in pairs(255) {
+        items.put(&[0x52, 9, semitones, cents]);
+    }
+    for channel in 0..=255 {
+        items.put(&[0x52, channel, 2, 50]);
+        items.put(&[0x52, channel, 96, 99]);
+    }
+    for [lower, upper] in pairs(17) {
+        for (zone, members) in [(0, lower), (1, upper)] {
+            for length in 0..=80 {
+                items.put(&[0x53, lower, upper, zone, 2, 50, 48, 1, length]);
+            }
+            let needed = 4 * (1 + members);
+            for length in [0, needed - 1, needed, needed + 1, 80] {
+                for [s, t, a, b] in ZONES {
+                    items.put(&[0x53, lower, upper, zone, s, t, a, b, length]);
+                }
+            }
+        }
+    }
+}
+
+/// Settings with these sensitivities and modes, and every channel at rest.
+fn at_rest(layout: [u8; 2], zones: [Zone; 2]) -> Settings {
+    let rest = Channel {
+        bend: 0x2000,
+        pressure: 0,
+        brightness: 64,
+    };
+    Settings {
+        layout,
+        zones,
+        channels: [rest; 16],
+    }
+}
+
+/// Item 70 with every byte in each field of the zones, with members and without. Item 72 with every
+/// semitones and cents that are legal, and what is shown then.
+fn settings(items: &mut Items) {
+    let usual = Zone {
+        manager: [2, 0],
+        member: [48, 0],
+        mode: 3,
+    };
+    for layout in [[3, 2], [3, 0], [0, 2], [0, 0]] {
+        let record = at_rest(layout, [usual; 2]).record();
+        for field in 2..12 {
+            for byte in 0..=255 {
+                let mut item = [&[0x70], &record[..], &[0, 0]].concat();
+                item[1 + field] = byte;
+                items.put(&item);
+            }
+        }
+    }
+    for semitones in 0..=96 {
+        for cents in 0..=99 {
+            let zone = |manager, member| Zone {
+                manager,
+                member,
+                mode: 3 + cents % 2,
+            };
+            let (given, turned) = ([semitones, cents], [96 - semitones, 99 - cents]);
+            let zones = [zone(given, turned), zone(turned, given)];
+            let record = at_rest([1, 1], zones).record();
+            items.put(&[&[0x72], &record[..]].concat());
+            items.put(&[0x06]);
         }
     }
 }

@@ -69,7 +69,7 @@ const USAGE: &str = "usage: generate SEED COUNT [KIND..]
        generate --exhaustive NAME
        generate --triples SEED COUNT
 KIND: end layout ump pitch apply parameters receiver sender allocator restatement (by default all)
-NAME: layouts packets constructors words announcements classes pitch";
+NAME: layouts packets constructors words announcements classes sensitivities settings pitch";
 
 /// The kinds named, each as often as it is to be chosen; none for a name that is no kind.
 fn chosen(names: &[String]) -> Option<Vec<Phrase>> {

@@ -5,14 +5,14 @@ use crate::settings::Settings;
 use crate::{end, Generator};
 
 /// Bytes of a settings record before its channels.
-const ZONES: usize = 8;
+const ZONES: usize = 12;
 
 /// Settings, mostly legal, and their record.
 fn settings(g: &mut Generator) -> (Settings, Vec<u8>) {
     let layout = g.random.layout();
     let settings = Settings::random(&mut g.random, layout);
     let mut record = settings.record();
-    if g.random.once_in(6) {
+    if g.random.once_in(4) {
         spoil(g, &mut record);
     }
     (settings, record)
@@ -21,12 +21,14 @@ fn settings(g: &mut Generator) -> (Settings, Vec<u8>) {
 /// Puts one field at its limit or past it.
 fn spoil(g: &mut Generator, record: &mut [u8]) {
     let channel = ZONES + 4 * g.random.below(16) as usize;
-    let zone = 2 + 3 * g.random.below(2) as usize;
-    match g.random.below(5) {
-        0 => record[zone] = g.random.one_of(&[96, 97, 127, 255]),
-        1 => record[zone + 1] = g.random.one_of(&[96, 97, 127, 255]),
-        2 => record[zone + 2] = g.random.one_of(&[0, 2, 3, 4, 5]),
-        3 => record[channel] = g.random.one_of(&[0x3F, 0x40, 0xFF]),
+    let zone = 2 + 5 * g.random.below(2) as usize;
+    // Manager or members.
+    let sensitivity = zone + g.random.one_of(&[0, 2]);
+    match g.random.below(7) {
+        0 | 1 => record[sensitivity] = g.random.one_of(&[96, 97, 127, 255]),
+        2 | 3 => record[sensitivity + 1] = g.random.cents_at_limit(),
+        4 => record[zone + 4] = g.random.one_of(&[0, 2, 3, 4, 5]),
+        5 => record[channel] = g.random.one_of(&[0x3F, 0x40, 0xFF]),
         _ => record[channel + 2 + g.random.below(2) as usize] = g.random.one_of(&[127, 128, 255]),
     }
 }

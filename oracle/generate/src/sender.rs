@@ -22,10 +22,10 @@ fn zone_sensitivities(g: &mut Generator) {
         _ => u8::from(upper > 0 && (lower == 0 || g.random.once_in(2))),
     };
     let members = if zone == 0 { lower } else { upper };
-    let length = length_near(g, 3 * (1 + u64::from(members)), 64) as u8;
-    let (manager, member) = (g.random.semitones(), g.random.semitones());
-    g.items
-        .put(&[0x53, lower, upper, zone, manager, member, length]);
+    let length = length_near(g, 4 * (1 + u64::from(members)), 80) as u8;
+    let [s, t] = [g.random.semitones(), g.random.cents()];
+    let [a, b] = [g.random.semitones(), g.random.cents()];
+    g.items.put(&[0x53, lower, upper, zone, s, t, a, b, length]);
 }
 
 /// Near the limits of `note_messages`: most notes are accepted.
@@ -61,8 +61,9 @@ pub fn phrase(g: &mut Generator) {
             g.items.put(&[0x51, zone, count]);
         }
         2 => {
-            let (channel, semitones) = (g.random.channel_as_given(), g.random.semitones());
-            g.items.put(&[0x52, channel, semitones]);
+            let channel = g.random.channel_as_given();
+            let (semitones, cents) = (g.random.semitones(), g.random.cents());
+            g.items.put(&[0x52, channel, semitones, cents]);
         }
         3 | 4 => zone_sensitivities(g),
         5 => {

@@ -1,12 +1,15 @@
-//! Settings, and their restatement as bytes, written by hand from document 01, "Restatement",
-//! and apart from that of `trace`.
+//! Settings, and their restatement as bytes, written by hand from document 01, "Restatement", and
+//! document 02, 2026-01, and apart from that of `trace`.
 
 use crate::random::Random;
 
+/// Semitones and cents.
+type Sensitivity = [u8; 2];
+
 #[derive(Clone, Copy)]
 pub struct Zone {
-    pub manager: u8,
-    pub member: u8,
+    pub manager: Sensitivity,
+    pub member: Sensitivity,
     pub mode: u8,
 }
 
@@ -25,26 +28,31 @@ pub struct Settings {
     pub channels: [Channel; 16],
 }
 
-/// Semitones from 0 to 96, often at a limit or as new.
-fn semitones(random: &mut Random) -> u8 {
-    match random.below(3) {
+/// Semitones from 0 to 96 and cents from 0 to 99, each often at a limit or as new.
+fn sensitivity(random: &mut Random) -> Sensitivity {
+    let semitones = match random.below(3) {
         0 => random.one_of(&[0, 1, 2, 48, 95, 96]),
         _ => random.below(97) as u8,
-    }
+    };
+    let cents = match random.below(2) {
+        0 => random.one_of(&[0, 1, 50, 99]),
+        _ => random.below(100) as u8,
+    };
+    [semitones, cents]
 }
 
 /// A zone inside its limits; the fields of an empty one are not read and may be anything.
 fn zone(random: &mut Random, members: u8) -> Zone {
     if members == 0 && random.once_in(2) {
         return Zone {
-            manager: random.byte(),
-            member: random.byte(),
+            manager: [random.byte(), random.byte()],
+            member: [random.byte(), random.byte()],
             mode: random.byte(),
         };
     }
     Zone {
-        manager: semitones(random),
-        member: semitones(random),
+        manager: sensitivity(random),
+        member: sensitivity(random),
         mode: random.one_of(&[3, 4]),
     }
 }
@@ -71,7 +79,9 @@ impl Settings {
     pub fn record(&self) -> Vec<u8> {
         let mut record = self.layout.to_vec();
         for zone in self.zones {
-            record.extend([zone.manager, zone.member, zone.mode]);
+            record.extend(zone.manager);
+            record.extend(zone.member);
+            record.push(zone.mode);
         }
         for channel in self.channels {
             record.extend(channel.bend.to_be_bytes());
@@ -84,7 +94,7 @@ impl Settings {
     pub fn messages(&self) -> u64 {
         let [lower, upper] = self.layout.map(u64::from);
         let zones = u64::from(lower > 0) + u64::from(upper > 0);
-        108 + 4 * zones + 3 * (lower + upper)
+        108 + 5 * zones + 4 * (lower + upper)
     }
 
     /// The zones with members: the manager's channel, the lowest member, the count, the settings.
@@ -126,9 +136,9 @@ impl Settings {
     /// C. The sensitivities: the manager's, and those of the members from the lowest up.
     fn sensitivities(&self, bytes: &mut Vec<u8>) {
         for (manager, lowest, members, zone) in self.active() {
-            rpn(bytes, manager, 0, zone.manager);
+            group(bytes, manager, zone.manager);
             for member in lowest..lowest + members {
-                rpn(bytes, member, 0, zone.member);
+                group(bytes, member, zone.member);
             }
         }
     }
@@ -160,7 +170,10 @@ impl Settings {
         for (members, zone) in self.layout.into_iter().zip(self.zones) {
             shown += &match members {
                 0 => " 2 0 48 0 3".to_string(),
-                _ => format!(" {} 0 {} 0 {}", zone.manager, zone.member, zone.mode),
+                _ => {
+                    let ([s, t], [a, b]) = (zone.manager, zone.member);
+                    format!(" {s} {t} {a} {b} {}", zone.mode)
+                }
             };
         }
         shown
@@ -185,20 +198,28 @@ fn rpn(bytes: &mut Vec<u8>, channel: u8, number: u8, value: u8) {
     }
 }
 
+/// The sensitivity of a channel: registered parameter 0 0 with the semitones, then data entry LSB
+/// with the cents.
+fn group(bytes: &mut Vec<u8>, channel: u8, [semitones, cents]: Sensitivity) {
+    rpn(bytes, channel, 0, semitones);
+    bytes.extend([0xB0 + channel, 38, cents]);
+}
+
 #[cfg(test)]
 mod tests {
     use super::*;
 
-    /// The sizes of document 01, "Bench examples".
+    /// The sizes of document 01, "Bench examples", with the cents of document 02: 108 + 5z + 4m
+    /// messages.
     #[test]
     fn sizes() {
         for (layout, messages, length) in
-            [([0, 0], 108, 308), ([7, 7], 158, 458), ([15, 0], 157, 455)]
+            [([0, 0], 108, 308), ([7, 7], 174, 506), ([15, 0], 173, 503)]
         {
             let settings = Settings::random(&mut Random::new(1), layout);
             assert_eq!(settings.messages(), messages);
             assert_eq!(settings.bytes().len(), length);
-            assert_eq!(settings.record().len(), 72);
+            assert_eq!(settings.record().len(), 76);
         }
     }
 }

@@ -249,7 +249,7 @@ fn future(g: &mut Generator, channel: u8) -> Vec<Item> {
 
 /// What would show that something of the history is left, as the first of a future.
 fn first_words(g: &mut Generator, channel: u8) {
-    match g.random.below(7) {
+    match g.random.below(8) {
         // Under the running status.
         0 => {
             for _ in 0..1 + g.random.below(4) {
@@ -273,6 +273,15 @@ fn first_words(g: &mut Generator, channel: u8) {
         4 => {
             let [lower, upper] = g.random.layout();
             g.items.put(&[0x03, lower, upper]);
+        }
+        // A step goes on from the semitones and cents that are shown.
+        5 => {
+            control(g, channel, 101, 0);
+            control(g, channel, 100, 0);
+            for _ in 0..1 + g.random.below(3) {
+                let step = g.random.one_of(&[96, 97]);
+                control(g, channel, step, 0);
+            }
         }
         _ => {}
     }

@@ -143,6 +143,22 @@ impl Random {
         }
     }
 
+    /// Cents at a limit, past it, or any.
+    pub fn cents_at_limit(&mut self) -> u8 {
+        match self.below(3) {
+            0 => self.byte(),
+            _ => self.one_of(&[0, 1, 50, 98, 99, 100, 127, 128, 255]),
+        }
+    }
+
+    /// Cents for a writer, whose limit is 99.
+    pub fn cents(&mut self) -> u8 {
+        match self.below(4) {
+            0 => self.cents_at_limit(),
+            _ => self.below(100) as u8,
+        }
+    }
+
     /// A sensitivity, as given: semitones and cents.
     pub fn sensitivity(&mut self) -> [u8; 2] {
         let usual = [

@@ -111,8 +111,8 @@ impl Arguments {
 
     fn zone_settings(&mut self) -> ZoneSettings {
         ZoneSettings {
-            manager: self.byte(),
-            member: self.byte(),
+            manager: self.sensitivity(),
+            member: self.sensitivity(),
             mode: self.byte(),
         }
     }

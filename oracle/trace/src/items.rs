@@ -3,7 +3,8 @@
 use crate::answer::{self, numbers, ok, with_buffer, words, Answer, Refusal};
 use crate::arguments::Arguments;
 use crate::end::{End, Reply};
-use crate::restatement::put;
+use crate::restatement::{as_words, put};
+use crate::sensitivity::{sensitivity_messages, zone_sensitivity_messages};
 use zmidi_io::mpe::{
     self, mpe_class, MpeLayout, MpeMessage, MpeNoteAllocator, MpeReceiver, MpeZone,
 };
@@ -17,7 +18,7 @@ use zmidi_ump::{
 /// The length of P, C and S in bytes.
 const P: usize = 3;
 const C: usize = 2;
-const S: usize = 2 + 2 * 3 + 16 * 4;
+const S: usize = 2 + 2 * 5 + 16 * 4;
 
 /// What a buffer of words and a buffer of bytes hold before a call.
 const WORD_BEFORE: u32 = 0x2FEF_7F7F;
@@ -53,11 +54,12 @@ pub fn length(operation: u8) -> Option<usize> {
     Some(match operation {
         0x00 | 0x06 | 0x34 | 0x36 | 0x39 | 0x40 | 0x43 | 0x60 | 0x64 | 0x65 => 0,
         0x01 | 0x02 | 0x07 | 0x08 | 0x37 | 0x38 | 0x44 | 0x62 | 0x63 => 1,
-        0x03 | 0x04 | 0x05 | 0x10 | 0x15 | 0x16 | 0x42 | 0x51 | 0x52 => 2,
-        0x12..=0x14 => 3,
+        0x03 | 0x04 | 0x05 | 0x10 | 0x15 | 0x16 | 0x42 | 0x51 => 2,
+        0x12..=0x14 | 0x52 => 3,
         0x11 | 0x18 | 0x21 | 0x35 | 0x50 | 0x54 | 0x61 => 4,
-        0x20 | 0x53 => 6,
+        0x20 => 6,
         0x17 | 0x55 => 7,
+        0x53 => 8,
         0x30 => P + C + 2,
         0x31 => 1 + P,
         0x32 => 1 + C,
@@ -72,7 +74,7 @@ pub fn length(operation: u8) -> Option<usize> {
 /// An operation that takes a buffer's length has it last; the length stays inside its limit.
 pub fn within_limit(operation: u8, bytes: &[u8]) -> bool {
     match (operation, bytes) {
-        (0x53, [.., n]) => *n <= 64,
+        (0x53, [.., n]) => *n <= 80,
         (0x70, [.., high, low]) => u16::from_be_bytes([*high, *low]) <= 1024,
         (0x71, [.., high, low]) => u16::from_be_bytes([*high, *low]) <= 256,
         _ => true,
@@ -339,7 +341,7 @@ fn sender_item(operation: u8, arguments: &mut Arguments) -> Answer {
         }
         0x52 => {
             let channel = arguments.channel();
-            words(&mpe::sensitivity_messages(channel, arguments.byte())?)
+            words(&sensitivity_messages(channel, arguments.sensitivity())?)
         }
         0x54 => {
             let layout = arguments.layout()?;
@@ -362,18 +364,14 @@ fn note_item(arguments: &mut Arguments) -> Answer {
 
 fn zone_sensitivity_item(arguments: &mut Arguments) -> String {
     let (layout, zone) = (arguments.layout(), arguments.zone());
-    let (manager, member) = (arguments.byte(), arguments.byte());
-    let before = Midi1ChannelVoiceMessage::parse(&[WORD_BEFORE]).expect("it is a message");
-    let mut buffer = vec![before; usize::from(arguments.byte())];
-    let answer = layout.and_then(|layout| {
-        mpe::zone_sensitivity_messages(layout, zone, manager, member, &mut buffer)
-            .map_err(Refusal::from)
+    let (manager, member) = (arguments.sensitivity(), arguments.sensitivity());
+    let mut buffer = vec![WORD_BEFORE; usize::from(arguments.byte())];
+    let words = layout.and_then(|layout| {
+        let messages = zone_sensitivity_messages(layout, zone, manager, member)?;
+        Ok(as_words(messages))
     });
-    let words: Vec<u32> = buffer
-        .into_iter()
-        .map(|message| message.into_bits())
-        .collect();
-    with_buffer(answer, &words)
+    let answer = words.and_then(|words| put(&words, &mut buffer));
+    with_buffer(answer, &buffer)
 }
 
 fn restatement_bytes_item(arguments: &mut Arguments) -> String {

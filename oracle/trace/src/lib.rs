@@ -8,6 +8,7 @@ mod items;
 mod pairs;
 mod reader;
 mod restatement;
+mod sensitivity;
 
 use std::io::{self, Read, Write};
 

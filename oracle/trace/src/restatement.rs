@@ -1,17 +1,19 @@
-//! Ours: the restatement, from document 01, "Restatement", groups A to F. Upstream has no such
-//! part; the messages are made by upstream's functions.
+//! Ours: the restatement, from document 01, "Restatement", groups A to F, with the cents of document
+//! 02, 2026-01. Upstream has no such part; the messages are made by upstream's functions, those with
+//! the cents by `sensitivity`.
 
 use crate::answer::Refusal;
-use zmidi_io::mpe::{mcm_messages, mode_message, zone_sensitivity_messages, MpeLayout, MpeZone};
+use crate::sensitivity::{control_change, zone_sensitivity_messages};
+use zmidi_io::mpe::{mcm_messages, mode_message, MpeLayout, MpeSensitivity, MpeZone};
 use zmidi_io::parameters::select_messages;
 use zmidi_io::Parameter;
 use zmidi_ump::controller::Rpn;
-use zmidi_ump::{Channel, Group, Midi1ChannelPressure, Midi1ControlChange, Midi1PitchBend};
+use zmidi_ump::{Channel, Group, Midi1ChannelPressure, Midi1PitchBend};
 use zmidi_ump::{Midi1ChannelVoiceMessage as Message, UmpError};
 
 pub struct ZoneSettings {
-    pub manager: u8,
-    pub member: u8,
+    pub manager: MpeSensitivity,
+    pub member: MpeSensitivity,
     pub mode: u8,
 }
 
@@ -31,18 +33,15 @@ pub struct Settings {
 
 type Messages = Result<Vec<Message>, UmpError>;
 
-fn control_change(channel: Channel, controller: u8, value: u8) -> Result<Message, UmpError> {
-    Midi1ControlChange::try_new(Group::from_bits(0), channel, controller, value)
-        .map(Message::ControlChange)
-}
-
 fn every_channel() -> impl Iterator<Item = Channel> {
     (0..16).map(Channel::from_bits)
 }
 
 impl ZoneSettings {
     fn is_legal(&self) -> bool {
-        self.manager <= 96 && self.member <= 96 && matches!(self.mode, 3 | 4)
+        let sensitivities = [self.manager, self.member];
+        let inside = |s: MpeSensitivity| s.semitones <= 96 && s.cents <= 99;
+        sensitivities.into_iter().all(inside) && matches!(self.mode, 3 | 4)
     }
 }
 
@@ -101,15 +100,8 @@ impl Settings {
     fn sensitivities(&self, layout: MpeLayout) -> Messages {
         let mut messages = Vec::new();
         for (zone, settings) in self.active() {
-            let mut group = [control_change(Channel::from_bits(0), 0, 0)?; 48];
-            let count = zone_sensitivity_messages(
-                layout,
-                zone,
-                settings.manager,
-                settings.member,
-                &mut group,
-            )?;
-            messages.extend(&group[..count]);
+            let (manager, member) = (settings.manager, settings.member);
+            messages.extend(zone_sensitivity_messages(layout, zone, manager, member)?);
         }
         Ok(messages)
     }
@@ -137,8 +129,7 @@ impl Settings {
 
     /// The restatement as words.
     pub fn words(&self) -> Result<Vec<u32>, Refusal> {
-        let messages = self.messages()?;
-        Ok(messages.into_iter().map(Message::into_bits).collect())
+        Ok(as_words(self.messages()?))
     }
 
     /// The restatement as bytes, each message with its own status.
@@ -169,6 +160,11 @@ fn nulls() -> Messages {
         messages.extend(select_messages(channel, Parameter::Registered(Rpn::Null))?);
     }
     Ok(messages)
+}
+
+/// The words of messages.
+pub fn as_words(messages: Vec<Message>) -> Vec<u32> {
+    messages.into_iter().map(Message::into_bits).collect()
 }
 
 /// Copies the whole of `elements` into the start of `buffer`, or refuses and copies nothing.

@@ -1,4 +1,4 @@
-//! The bench examples of document 01, and the form of the input.
+//! The bench examples of document 01, the cents of document 02, 2026-01, and the form of the input.
 
 /// The answers to a trace.
 fn answers(trace: &str) -> String {
@@ -25,9 +25,15 @@ fn bytes(bytes: &str) -> String {
         .collect()
 }
 
-/// A settings record: a layout, both zones 2, 48, mode 3, and every channel at rest.
+/// A settings record: a layout, what is set for each zone, and every channel at rest.
+fn record(layout: &str, zones: [&str; 2]) -> String {
+    let [lower, upper] = zones;
+    format!("{layout} {lower} {upper} {}", "20 00 00 40 ".repeat(16))
+}
+
+/// A settings record with both zones 2/0, 48/0, mode 3.
 fn settings(layout: &str) -> String {
-    format!("{layout} 02 30 03 02 30 03 {}", "20 00 00 40 ".repeat(16))
+    record(layout, ["02 00 30 00 03"; 2])
 }
 
 #[test]
@@ -78,16 +84,16 @@ fn steps_of_rpn_0() {
 
 #[test]
 fn senders() {
-    let before = " 804224895".repeat(11);
+    let before = " 804224895".repeat(15);
     hold(&[
         ("55 00 3C 00 20 00 40 00", "!1"),
         (
             "55 00 3C 01 20 00 40 00",
             "551551040 548424256 550502400 546323457",
         ),
-        ("53 03 00 00 02 30 0B", &format!("!2 12 11 :{before}")),
-        ("53 03 00 01 02 30 0B", &format!("!1 :{before}")),
-        ("53 03 00 01 02 30 00", "!1 :"),
+        ("53 03 00 00 02 00 30 00 0F", &format!("!2 16 15 :{before}")),
+        ("53 03 00 01 02 00 30 00 0F", &format!("!1 :{before}")),
+        ("53 03 00 01 02 00 30 00 00", "!1 :"),
         ("50 14 01 01 00", "1"),
         ("50 15 01 01 00", "!1"),
         ("61 00 00 00 3C", "!3"),
@@ -95,12 +101,71 @@ fn senders() {
     ]);
 }
 
+/// The words of a group on a channel.
+fn group(channel: u32, semitones: u32, cents: u32) -> String {
+    let data = [0x6500, 0x6400, 0x0600 + semitones, 0x2600 + cents];
+    let words = data.map(|data| (0x20B0_0000 + (channel << 16) + data).to_string());
+    words.join(" ")
+}
+
+#[test]
+fn sensitivities_with_cents() {
+    hold(&[
+        ("52 00 02 32", &group(0, 2, 50)),
+        ("52 1F 00 00", &group(15, 0, 0)),
+        ("52 09 60 63", &group(9, 96, 99)),
+        ("52 09 61 00", "!1"),
+        ("52 09 60 64", "!1"),
+        ("52 09 00 7F", "!1"),
+        ("52 09 00 80", "!1"),
+        ("52 09 00 FF", "!1"),
+        (
+            "53 00 02 01 02 01 60 63 0D",
+            &format!(
+                "12 : {} {} {} 804224895",
+                group(15, 2, 1),
+                group(13, 96, 99),
+                group(14, 96, 99)
+            ),
+        ),
+        ("53 00 02 01 02 64 60 63 00", "!1 :"),
+        ("53 00 02 01 02 01 60 64 00", "!1 :"),
+        ("53 00 02 01 02 01 60 63 00", "!2 12 0 :"),
+    ]);
+    let whole = answers("53 0F 00 00 60 63 60 63 40");
+    assert!(whole.starts_with("64 : "));
+    assert!(whole.ends_with(&(group(15, 96, 99) + "\n")));
+}
+
+#[test]
+fn cents_in_settings() {
+    let refused = |layout: &str, zones: [&str; 2]| {
+        let answer = answers(&format!("70 {} 00 00", record(layout, zones)));
+        answer == "!1 :\n"
+    };
+    let plain = "02 00 30 00 03";
+    for (zone, is_refused) in [
+        ("60 63 60 63 03", false),
+        ("02 64 30 00 03", true),
+        ("02 00 30 64 03", true),
+        ("02 FF 30 FF 03", true),
+    ] {
+        assert_eq!(refused("03 00", [zone, plain]), is_refused);
+        assert_eq!(refused("00 03", [plain, zone]), is_refused);
+        assert_eq!(refused("03 04", [plain, zone]), is_refused);
+        // Of an empty zone nothing is read.
+        assert!(!refused("03 00", [plain, zone]));
+        assert!(!refused("00 03", [zone, plain]));
+        assert!(!refused("00 00", [zone, zone]));
+    }
+}
+
 #[test]
 fn restatement_sizes() {
     for (layout, messages, length) in [
         ("00 00", 108, 308),
-        ("07 07", 158, 458),
-        ("0F 00", 157, 455),
+        ("07 07", 174, 506),
+        ("0F 00", 173, 503),
     ] {
         let record = settings(layout);
         let as_bytes = answers(&format!("70 {record} 04 00"));
@@ -117,11 +182,12 @@ fn restatement_sizes() {
 #[test]
 fn a_restatement_is_shown() {
     let played = bytes("B0 65 00 64 06 06 05 E0 01 02 D3 07 B1 4A 11 63 05");
-    let record = "03 02 05 07 04 60 00 03 ".to_string() + &"12 34 05 06 ".repeat(16);
+    let zones = "03 02 05 32 07 63 04 60 00 00 01 03 ".to_string();
+    let record = zones + &"12 34 05 06 ".repeat(16);
     let answers = answers(&format!("{played} 72 {record} 06 07 09"));
     let last: Vec<&str> = answers.lines().rev().take(3).collect();
     assert_eq!(last[2], "ok");
-    assert_eq!(last[1], "3 2 5 0 7 0 4 96 0 0 0 3");
+    assert_eq!(last[1], "3 2 5 50 7 99 4 96 0 0 1 3");
     assert_eq!(last[0], "4660 5 6 - 1 0 -");
 }
 
@@ -273,7 +339,9 @@ fn what_cannot_be_read_ends_the_run() {
         ("17 00 00 00 00 00 00", "?\n"),
         ("18 20 B0 00", "?\n"),
         ("19 00", "?\n"),
-        ("53 03 00 00 02 30 41", "?\n"),
+        ("53 03 00 00 02 00 30 00", "?\n"),
+        ("53 03 00 00 02 00 30 00 51", "?\n"),
+        ("52 00 02", "?\n"),
         ("00 09 00", "ok\n?\n"),
     ] {
         assert_eq!(answers(trace), expected, "the answers to {trace:?}");

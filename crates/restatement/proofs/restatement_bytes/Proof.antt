@@ -35,7 +35,7 @@ returns c = let d = c .before in
     let o = b .args .out .now in
     let r = d .bytes-reply .result in
     let t = c .match .keys2 in
-    let p = d .bytes-reply .ensures in
+    let p = d .bytes-reply .ensures .0 in
     (p, (stays r (restatement s) o t ∙ ap (λ x. filled x (restatement s) o) p, (λ n e. absurd (not-counted r t n e), λ n e. absurd (not-counted r t n e))))
 
 slice-aggregate-write-messages : tie.Need-slice-aggregate-write-messages
@@ -46,7 +46,7 @@ write-messages-requires c κs = let k = c .before .before in
     let d = k .before .before in
     let b = d .before .before in
     let s = b .args .settings in
-    let q = counted s _ _ _ (sym (ap writtenRead (k .reply .given .1)) ∙ d .bytes-reply .ensures) in
+    let q = counted s _ _ _ (sym (ap writtenRead (k .reply .given .1)) ∙ d .bytes-reply .ensures .0) in
     (q .is-allowed, most-messages (s .layout) (allowed-legal s (q .is-allowed)))
 
 slice-aggregate-write-bytes : tie.Need-slice-aggregate-write-bytes
@@ -59,8 +59,8 @@ messages-in-requires c κs = let m = c .before .before in
     let d = k .before .before in
     let b = d .before .before in
     let s = b .args .settings in
-    let q = counted s _ _ _ (sym (ap writtenRead (k .reply .given .1)) ∙ d .bytes-reply .ensures) in
-    let h : 474 < 2 ^ 64 = lit< tt in
+    let q = counted s _ _ _ (sym (ap writtenRead (k .reply .given .1)) ∙ d .bytes-reply .ensures .0) in
+    let h : 522 < 2 ^ 64 = lit< tt in
     omega (arith, h, q .is-needed, most-messages (s .layout) (allowed-legal s (q .is-allowed)))
 
 write-bytes-requires : tie.Need-write-bytes-requires
@@ -69,15 +69,15 @@ write-bytes-requires c κs = let m = c .before .before .before .before in
     let d = k .before .before in
     let b = d .before .before in
     let s = b .args .settings in
-    let q = counted s _ _ _ (sym (ap writtenRead (k .reply .given .1)) ∙ d .bytes-reply .ensures) in
+    let q = counted s _ _ _ (sym (ap writtenRead (k .reply .given .1)) ∙ d .bytes-reply .ensures .0) in
     let t = q .is-allowed in
     let most = most-messages (s .layout) (allowed-legal s t) in
     let ws = m .write-messages .last .1 .0 in
     let v : take (messageCount (s .layout)) ws ≡ messages s =
     ap (λ l. take (messageCount (s .layout)) l) (m .write-messages .ensures)
-    ∙ take-front (replicate 158 0) (messages s) (messageCount (s .layout)) (message-count s t) most in
+    ∙ take-front (replicate 174 0) (messages s) (messageCount (s .layout)) (message-count s t) most in
     let n = c .before .messages-in .ensures ∙ ap (λ i. (i + 16) / 3) (q .is-needed) ∙ messages-of (s .layout) in
-    let f : length ws ≡ 158 = ap length (m .write-messages .ensures) ∙ simp length-sets in (
+    let f : length ws ≡ 174 = ap length (m .write-messages .ensures) ∙ simp length-sets in (
       omega (arith, f, n, most),
       rw (n, v) (omega (arith, byte-count s t, q .fits)),
     )
@@ -93,13 +93,13 @@ returns-2 c = let w = c .before .before in
     let b = d .before .before in
     let s = b .args .settings in
     let o = b .args .out .now in
-    let p = sym (ap writtenRead (k .reply .given .1)) ∙ d .bytes-reply .ensures in
+    let p = sym (ap writtenRead (k .reply .given .1)) ∙ d .bytes-reply .ensures .0 in
     let q = counted s _ _ _ p in
     let t = q .is-allowed in
     let ws = m .write-messages .last .1 .0 in
     let v : take (messageCount (s .layout)) ws ≡ messages s =
     ap (λ l. take (messageCount (s .layout)) l) (m .write-messages .ensures)
-    ∙ take-front (replicate 158 0) (messages s) (messageCount (s .layout)) (message-count s t) (most-messages (s .layout) (allowed-legal s t)) in
+    ∙ take-front (replicate 174 0) (messages s) (messageCount (s .layout)) (message-count s t) (most-messages (s .layout) (allowed-legal s t)) in
     let x = w .write-bytes .last .1 .1 .0 in
     let y : x ≡ sets o 0 (restatement s) =
     w .write-bytes .ensures ∙ ap (λ l. sets o 0 (bytes l)) (ap (λ n. take n ws) (w .before .before .messages-in .ensures ∙ ap (λ i. (i + 16) / 3) (q .is-needed) ∙ messages-of (s .layout)) ∙ v) in

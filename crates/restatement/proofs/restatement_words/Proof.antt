@@ -24,7 +24,7 @@ returns c = let d = c .before in
     let b = d .before .before in
     let s = b .args .settings in
     let o = b .args .out .now in
-    let p = d .words-reply .ensures in
+    let p = d .words-reply .ensures .0 in
     (p, (stays (d .words-reply .result) (messages s) o (c .match .keys2) ∙ ap (λ r. filled r (messages s) o) p, counts-hold))
 
 write-messages-requires : tie.Need-write-messages-requires
@@ -32,7 +32,7 @@ write-messages-requires c κs = let k = c .before .before in
     let d = k .before .before in
     let b = d .before .before in
     let s = b .args .settings in
-    let q = counted s _ _ _ (sym (ap writtenRead (k .reply .given .1)) ∙ d .words-reply .ensures) in
+    let q = counted s _ _ _ (sym (ap writtenRead (k .reply .given .1)) ∙ d .words-reply .ensures .0) in
     (q .is-allowed, q .fits)
 
 same-length : tie.Need-same-length
@@ -45,7 +45,7 @@ returns-2 c = let w = c .before .before in
     let b = d .before .before in
     let s = b .args .settings in
     let o = b .args .out .now in
-    let p = sym (ap writtenRead (k .reply .given .1)) ∙ d .words-reply .ensures in
+    let p = sym (ap writtenRead (k .reply .given .1)) ∙ d .words-reply .ensures .0 in
     let q = counted s _ _ _ p in
     let m = message-count s (q .is-allowed) in
     let h : w .write-messages .last .1 .0 ≡ messages s ++ drop (messageCount (s .layout)) o =

@@ -61,7 +61,7 @@ returns c = let d = c .before .before .before in
     let m = d .zone-sensitivity-messages in (
       c .place-after .ensures ∙ rw (m .ensures .0, d .before .before .before .shown-sensitivity .ensures, d .before .before .shown-sensitivity2 .ensures, w .count),
       sets-part xs (m .last .1 .1 .1 .1 .0) (sensitivities s z) at (a .pre .1)
-          (rw (m .ensures .1, d .before .before .before .shown-sensitivity .ensures, d .before .before .shown-sensitivity2 .ensures) (w .buffer (midOf at (length xs - at) xs))),
+          (rw (m .ensures .1 .0, d .before .before .before .shown-sensitivity .ensures, d .before .before .shown-sensitivity2 .ensures) (w .buffer (midOf at (length xs - at) xs))),
     )
 
 pub write-sensitivities-spec : {M : Type 1} → statement M

@@ -1,4 +1,4 @@
--- `zone_sender::write_group` meets its contract: the three words that are given stand in front of the rest.
+-- `zone_sender::write_group` meets its contract: the four words that are given stand in front of the rest.
 -- Assumes nothing.
 use lib.ListN.{drop, length-set}
 use native.Mathlib.Omega.{arith}
@@ -6,8 +6,9 @@ use Prim.Native.Nat.{ℕ}
 use mathlib.Core.List.{List, _++_}
 use mathlib.Core.Path.{_∙_, sym, ap}
 use borrow.Author.Needs.{needs}
-use Rattle.ump.specs.Word.{threeMade}
-use Rattle.zone_sender.proofs.Groups.{three, group-words, group-made}
+use Rattle.ump.specs.Word.{fourMade}
+use Rattle.zone_sender.specs.Zone.{groupSize}
+use Rattle.zone_sender.proofs.Groups.{at-front, group-words, group-made}
 use Rattle.zone_sender.proofs.write_group.Statement.{statement}
 use Rattle.zone_sender.proofs.write_group.Tie as tie
 
@@ -23,8 +24,8 @@ enum-told c = search needs
 returns : tie.Need-returns
 returns c = let d = c .before .before in
     let a = d .before .before .args in
-    let e = sym (ap threeMade (c .enum-told .given .1)) ∙ d .sensitivity-messages .ensures in
-    absurd (group-made (a .channel) (a .semitones) (omega arith) e)
+    let e = sym (ap fourMade (c .enum-told .given .1)) ∙ d .sensitivity-messages .ensures .0 in
+    absurd (group-made (a .channel) (a .sensitivity) (d .before .before .pre .2) e)
 
 slice-write-out : tie.Need-slice-write-out
 slice-write-out c = search needs
@@ -33,7 +34,10 @@ slice-write-out-2 : tie.Need-slice-write-out-2
 slice-write-out-2 c = simp length-set (omega arith)
 
 slice-write-out-3 : tie.Need-slice-write-out-3
-slice-write-out-3 c = search needs
+slice-write-out-3 c = simp length-set (omega arith)
+
+slice-write-out-4 : tie.Need-slice-write-out-4
+slice-write-out-4 c = simp length-set (omega arith)
 
 same-length : tie.Need-same-length
 same-length c = search needs
@@ -42,8 +46,8 @@ returns-2 : tie.Need-returns-2
 returns-2 c = let d = c .before .before .before in
     let a = d .before .before .args in
     let xs = a .out .now in
-    let e = sym (ap threeMade (c .before .group .given .1)) ∙ d .sensitivity-messages .ensures in
-    three xs _ _ _ (omega arith) ∙ ap (λ (g : List ℕ). g ++ drop 3 xs) (group-words (a .channel) (a .semitones) _ _ _ (omega arith) (omega arith) e)
+    let e = sym (ap fourMade (c .before .group .given .1)) ∙ d .sensitivity-messages .ensures .0 in
+    at-front xs _ _ _ _ (omega arith) ∙ ap (λ (g : List ℕ). g ++ drop groupSize xs) (group-words (a .channel) (a .sensitivity) _ (omega arith) (d .before .before .pre .2) e)
 
 pub write-group-spec : {M : Type 1} → statement M
 write-group-spec =
@@ -56,5 +60,6 @@ write-group-spec =
     slice-write-out
     slice-write-out-2
     slice-write-out-3
+    slice-write-out-4
     same-length
     returns-2)

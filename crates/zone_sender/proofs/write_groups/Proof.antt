@@ -48,7 +48,7 @@ write-at-requires c κs =
     let r = c .before .before .before .before .pre .1 in
     let l : length (midOf (groupSize * k) (length xs - groupSize * k) xs) ≡ length xs - groupSize * k = mid-len (groupSize * k) (length xs) xs (le-refl (length xs)) in (
       omega (arith, l),
-      record { manager-in = r .manager-in; members-in = omega (arith, r .members-in); manager-low = r .manager-low; member-low = r .member-low },
+      record { manager-in = r .manager-in; members-in = omega (arith, r .members-in); manager-allowed = r .manager-allowed; member-allowed = r .member-allowed },
     )
 
 add-k : tie.Need-add-k Inv-loop μ-loop

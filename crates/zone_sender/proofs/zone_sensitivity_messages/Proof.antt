@@ -2,12 +2,13 @@
 -- Assumes nothing.
 use lib.ListN.{length}
 use native.Mathlib.Omega.{arith}
-use mathlib.Core.Path.{_∙_, sym, ap}
+use mathlib.Core.Path.{_≡_, _∙_, sym, ap}
 use borrow.Author.Needs.{needs}
 use Rattle.mpe_layout.specs.Layout.{membersOf}
 use Rattle.mpe_sender.specs.Writers.{zoneFound}
 use Rattle.mpe_sender.proofs.Zones.{active, inactive, manager-lt, members-in}
-use Rattle.zone_sender.specs.Zone.{zoneWords, fillReply, filled}
+use Rattle.zone_sender.specs.Zone.{zoneWords, fillReply, zoneReply, filled, writtenRead}
+use Rattle.zone_sender.proofs.Order.{written-in-order, answered-by-need}
 use Rattle.zone_sender.proofs.zone_sensitivity_messages.Statement.{statement}
 use Rattle.zone_sender.proofs.zone_sensitivity_messages.Tie as tie
 
@@ -26,7 +27,8 @@ returns c = let d = c .before .before in
     let xs = a .out .now in
     let e = sym (ap zoneFound (c .enum-told .given .1)) ∙ d .active-zone .ensures in
     let q = inactive (a .layout) (a .zone) (fillReply (membersOf (a .layout) (a .zone)) (a .manager) (a .member) (length xs)) e in
-    (q, ap (λ o. filled o (zoneWords (a .layout) (a .zone) (a .manager) (a .member)) xs) q)
+    let b = ap (λ o. filled o (zoneWords (a .layout) (a .zone) (a .manager) (a .member)) xs) q in
+    (q, (b, (written-in-order (a .layout) (a .zone) (a .manager) (a .member) _ xs xs q b, answered-by-need (a .layout) (a .zone) (a .manager) (a .member) (length xs) _ q)))
 
 manager-requires : tie.Need-manager-requires
 manager-requires c κs = search needs
@@ -47,7 +49,10 @@ returns-2 c = let f = c .before .before in
     let d = f .before .before .before .before in
     let a = d .before .before .before .before .args in
     let z = active (a .layout) (a .zone) _ _ (sym (ap zoneFound (d .found .given .1)) ∙ d .before .before .active-zone .ensures) in
-    rw (z .is-legal, z .some, ← z .is-lowest, ← z .is-members, ← f .before .before .manager .ensures) (f .fill .ensures)
+    let xs = a .out .now in
+    let p : (writtenRead (f .fill .result) ≡ zoneReply (a .layout) (a .zone) (a .manager) (a .member) (length xs)) × (f .fill .last .1 .1 .0 ≡ filled (zoneReply (a .layout) (a .zone) (a .manager) (a .member) (length xs)) (zoneWords (a .layout) (a .zone) (a .manager) (a .member)) xs) =
+    rw (z .is-legal, z .some, ← z .is-lowest, ← z .is-members, ← f .before .before .manager .ensures) (f .fill .ensures) in
+    (p .0, (p .1, (written-in-order (a .layout) (a .zone) (a .manager) (a .member) _ xs _ (p .0) (p .1), answered-by-need (a .layout) (a .zone) (a .manager) (a .member) (length xs) _ (p .0))))
 
 pub zone-sensitivity-messages-spec : {M : Type 1} → statement M
 zone-sensitivity-messages-spec =
