@@ -11,7 +11,7 @@ use lib.Dec.{eqb}
 use lib.ListN.{length, length-append}
 use borrow.Author.Tests.{eqb-true, eqb-false}
 use Rattle.ump.proofs.Cases.{by-test, of-both}
-use Rattle.mpe_layout.specs.Layout.{legal, managerOf, lowestOf}
+use Rattle.mpe_layout.specs.Layout.{legal, membersOf, managerOf, lowestOf}
 use Rattle.mpe_layout.specs.declared.MpeZone.{MpeZone}
 use Rattle.mpe_layout.specs.declared.MpeZone.the-variants.{Lower, Upper}
 use Rattle.mpe_layout.specs.declared.MpeLayout.{MpeLayout}
@@ -19,8 +19,8 @@ use Rattle.mpe_layout.proofs.Legal.{members-le, both-le}
 use Rattle.mpe_pitch.specs.declared.MpeSensitivity.{MpeSensitivity}
 use Rattle.mpe_sender.specs.Writers.{controlWord, rpnGroup, sensitivityGroup, sensitivityAllowed}
 use Rattle.mpe_sender.proofs.Zones.{manager-lt, members-in, lowest-lt}
-use Rattle.mpe_sender.proofs.Entered.{allowed-limits}
-use Rattle.zone_sender.specs.Zone.{groupSize, channelAt, sensitivityAtPlace, zoneGroups, groupAt, groups, InRange}
+use Rattle.mpe_sender.proofs.Entered.{allowed-limits, allowed-within}
+use Rattle.zone_sender.specs.Zone.{groupSize, channelAt, sensitivityAtPlace, zoneGroups, groupAt, groups, zoneWords, InRange}
 use Rattle.zone_sender.proofs.Groups.{groups-length, channel-lt, on-allowed}
 use Rattle.settings.specs.Settings.{zoneOf, membersIn, isMono, bendOn, pressureOn, brightnessOn, allowed}
 use Rattle.settings.specs.Messages.{eachChannel, resetOn, resets, announcement, announcements, sensitivities, modes, deselectionOn, deselections, brightnessController, controlsOn, controls, messages, bytesOf, bytes, restatement, oneIfAny, messageCount, byteCount, CountsHold}
@@ -50,8 +50,7 @@ unfolding sensitivities
 sensitivities-length s zone =
     by-test (eqb (membersIn s zone) 0)
     (λ e. rw e (omega (arith, eqb-true (membersIn s zone) 0 e)))
-    (λ e. rw e
-    (omega (arith, groups-length (zoneGroups (managerOf zone) (lowestOf (s .layout) zone) (zoneOf s zone .manager) (zoneOf s zone .member)) (membersIn s zone + 1))))
+    (λ e. rw e (simp groups-length (omega arith)))
 
 pub modes-length : (s : Settings) (zone : MpeZone) → length (modes s zone) ≡ oneIfAny (membersIn s zone)
 unfolding modes
@@ -145,19 +144,28 @@ groups-bytes manager lowest a b (suc n) r =
       group-of-bytes (channelAt manager lowest n) (sensitivityAtPlace a b n) (channel-lt z n t) (on-allowed z n (n + 1) t),
     )
 
+-- of a whole zone, whatever sensitivities are stated
+zone-bytes : (l : MpeLayout) (zone : MpeZone) (a b : MpeSensitivity) → legal l ≡ true → sensitivityAllowed a ≡ true → sensitivityAllowed b ≡ true
+    → length (bytes (zoneWords l zone a b)) ≡ 3 * length (zoneWords l zone a b)
+zone-bytes l zone a b h p q =
+    let m = membersOf l zone in
+    let z = zoneGroups (managerOf zone) (lowestOf l zone) a b in
+    let r : InRange z (m + 1) = record { manager-in = manager-lt zone; members-in = omega (arith, members-in l zone h); manager-allowed = p; member-allowed = q } in
+    omega (arith, groups-bytes (managerOf zone) (lowestOf l zone) a b (m + 1) r, groups-length z (m + 1))
+
 sensitivities-bytes : (s : Settings) (zone : MpeZone) → allowed s ≡ true → length (bytes (sensitivities s zone)) ≡ 3 * length (sensitivities s zone)
 unfolding sensitivities bytes
 sensitivities-bytes s zone h =
     by-test (eqb (membersIn s zone) 0)
     (λ e. rw e)
     (λ e.
-    let m = membersIn s zone in
-    let w = zoneOf s zone in
-    let z = zoneGroups (managerOf zone) (lowestOf (s .layout) zone) (w .manager) (w .member) in
-    let f = allowed-zone s h zone (omega (arith, eqb-false m 0 e)) in
-    let r : InRange z (m + 1) =
-    record { manager-in = manager-lt zone; members-in = omega (arith, members-in (s .layout) zone (allowed-legal s h)); manager-allowed = f .0; member-allowed = f .1 } in
-    rw e (omega (arith, groups-bytes (managerOf zone) (lowestOf (s .layout) zone) (w .manager) (w .member) (m + 1) r, groups-length z (m + 1))))
+    let f = allowed-zone s h zone (omega (arith, eqb-false (membersIn s zone) 0 e)) in
+    let x = allowed-limits (zoneOf s zone .manager) (f .0) in
+    let y = allowed-limits (zoneOf s zone .member) (f .1) in
+    rw e
+    (zone-bytes (s .layout) zone _ _ (allowed-legal s h)
+    (allowed-within _ .1 (omega (arith, x .0)) (omega (arith, x .1)))
+    (allowed-within _ .1 (omega (arith, y .0)) (omega (arith, y .1)))))
 
 modes-bytes : (s : Settings) (zone : MpeZone) → allowed s ≡ true → length (bytes (modes s zone)) ≡ 3 * length (modes s zone)
 unfolding modes bytes
