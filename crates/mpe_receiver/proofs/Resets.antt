@@ -148,6 +148,7 @@ by-zones =
       zones-left = λ r e w. zones-of-chosen (wordForm w) (receivedByWord r e w .receiver) r;
       declined-left = λ r e w h. passed (receivedByWord r e w .receiver) r h;
       set-replies = λ r l. refl;
+      set-mask = λ r l f h. rw (h, f .lawful);
       zones-set = λ r l. zones-of-chosen (legal l) (restUpto (withZones r (withZonesOf (zonesOf r) l)) (layoutResets (r .layout) l) 16) r;
       illegal-left = λ r l h. passed _ r h;
     }

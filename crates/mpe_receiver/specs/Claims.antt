@@ -1,7 +1,7 @@
 -- What the channels read after a change of layout, and after a message (document 01, "The receiver").
 use Prim.Native.Nat.{ℕ, _+_, _*_, _^_}
 use mathlib.Core.Path.{_≡_}
-use mathlib.Core.Bool.{false}
+use mathlib.Core.Bool.{true, false}
 use mathlib.Core.Logic.{_≢_}
 use Rattle.ump.specs.Choice.{if_then_else_}
 use Rattle.ump.specs.Outcome.{given}
@@ -10,7 +10,7 @@ use Rattle.ump.specs.Word.{opcodeOf, channelOf, firstOf, secondOf, wordForm}
 use Rattle.parameters.specs.declared.MaybeEvent.{MaybeEvent}
 use Rattle.mpe_layout.specs.declared.MpeLayout.{MpeLayout}
 use Rattle.mpe_layout.specs.Layout.{legal}
-use Rattle.mpe_reset.specs.Reset.{named}
+use Rattle.mpe_reset.specs.Reset.{named, layoutMask}
 use Rattle.mpe_zones.specs.Zones.{zonesSetReply, zonesSet}
 use Rattle.mpe_event.specs.declared.MpeEvent.{MpeEvent}
 use Rattle.mpe_event.specs.declared.MpeEvent.the-variants.{Layout}
@@ -43,12 +43,14 @@ pub record MaskRests : Type 0 where
   pub of-other-message : (r : MpeReceiver) (e : MaybeEvent) (event : MpeEvent) (w channel : ℕ) → ReceiverFormed r → receiverReply r w e ≡ given event → ((mask : ℕ) → event ≢ Layout mask) → Controls (receiverAfter r w e) channel (bendAt (storedBy r w) channel) (pressureAt (storedBy r w) channel) (brightnessAt (storedBy r w) channel)
   pub of-layout : (r : MpeReceiver) (l : MpeLayout) (mask channel : ℕ) → ReceiverFormed r → setReply r l ≡ given mask → Rested mask r (setState r l) channel
 
--- the reply to a message and the zones after it are those of the receiver's zones, and so for a layout that is set; what is declined leaves the receiver
+-- the reply to a message and the zones after it are those of the receiver's zones, and so for a layout that is set, where a legal one is answered with
+-- the mask of every channel that has a role before or after; what is declined leaves the receiver
 pub record ByZones : Type 0 where
   pub replies : (r : MpeReceiver) (e : MaybeEvent) (w : ℕ) → receiverReply r w e ≡ zonesReply (zonesOf r) w e
   pub zones-left : (r : MpeReceiver) (e : MaybeEvent) (w : ℕ) → zonesOf (receiverAfter r w e) ≡ zonesAfter (zonesOf r) w e
   pub declined-left : (r : MpeReceiver) (e : MaybeEvent) (w : ℕ) → wordForm w ≡ false → receiverAfter r w e ≡ r
   pub set-replies : (r : MpeReceiver) (l : MpeLayout) → setReply r l ≡ zonesSetReply (zonesOf r) l
+  pub set-mask : (r : MpeReceiver) (l : MpeLayout) → ReceiverFormed r → legal l ≡ true → setReply r l ≡ given (layoutMask (r .layout) l)
   pub zones-set : (r : MpeReceiver) (l : MpeLayout) → zonesOf (setState r l) ≡ zonesSet (zonesOf r) l
   pub illegal-left : (r : MpeReceiver) (l : MpeLayout) → legal l ≡ false → setState r l ≡ r
 
