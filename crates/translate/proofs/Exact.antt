@@ -1,0 +1,141 @@
+-- The values that a byte may have are those that are accepted, and no others: what `new` and `translate_words` promise.
+-- Assumes nothing.
+use mathlib.Core.Path.{_≡_, refl, sym, _∙_}
+use mathlib.Core.Bool.{Bool, true, false, true≢false}
+use mathlib.Core.List.{List, _∷_, _++_}
+use Prim.Native.Nat.{ℕ, _%_, _<_}
+use borrow.Author.Tests.{le-leb}
+use lib.Dec.{ltb, eqb}
+use Rattle.ump.specs.Outcome.{Outcome}
+use Rattle.ump.specs.Word.{wordForm}
+use Rattle.ump.proofs.Cases.{by-test, of-both}
+use Rattle.translate.specs.declared.ChannelState.{ChannelState}
+use Rattle.translate.specs.declared.Midi1ToMidi2Group.{Midi1ToMidi2Group}
+use Rattle.translate.specs.declared.Translation.{Translation}
+use Rattle.translate.specs.declared.Translation.the-variants.{Words, Nothing, OutOfRange}
+use Rattle.translate.specs.declared.Stepped.{Stepped}
+use Rattle.translate.specs.Carried.{held, kindIn, pendingIn, nullAfterIn, newRecord, stateOn, stateAllowed, recordAllowed}
+use Rattle.translate.specs.Translate.{translationRead, translationOf, recordAfter, controllerNumbered, controller, pendingWords, pendingSent, mcmSelected, enteredAfter, entered, lsbEntered, controlChanged, programWords, messageStep}
+use Rattle.translate.specs.Lists.{TranslatorCall, translate-words, flush, reset, answerTo, afterCalls, wordsIn, wordsFrom, ListContinues, byteOf, byteAllowed, ofMessage, isGiven, ExactlyAccepted, OthersRefused}
+use Rattle.translate.proofs.Allowed.{Allowed, parts-allowed, one-refused}
+use Rattle.translate.proofs.Always.{Formed, new-formed, on-allowed, always-formed}
+use Rattle.translate.proofs.Reached.{Each, nothing, _and_, at, leads}
+
+-- words, or none, and no refusal
+abbrev Answers : Translation → Type 0
+Answers t = isGiven (translationRead t) ≡ true
+
+abbrev Answered : Stepped → Type 0
+Answered x = Answers (x .reply)
+
+module _ (g c : ℕ) where
+  numbered-answers : (o m l v : ℕ) → Answers (controllerNumbered g c o m l v)
+  unfolding controllerNumbered
+  numbered-answers o m l v =
+      of-both Answers (eqb m 0) refl
+      (of-both Answers (eqb l 0) refl
+      (of-both Answers (eqb m (held 0x7F)) (of-both Answers (eqb l (held 0x7F)) refl refl) refl))
+
+  controller-answers : (s : ChannelState) (v : ℕ) → Answers (controller g c s v)
+  unfolding controller
+  controller-answers s v =
+      of-both Answers (eqb (kindIn (s .flags)) 1) (numbered-answers 0x2 _ _ v)
+      (of-both Answers (eqb (kindIn (s .flags)) 2) (numbered-answers 0x3 _ _ v) refl)
+
+  pending-answers : (s : ChannelState) → Answers (pendingWords g c s)
+  unfolding pendingWords
+  pending-answers s =
+      of-both Answers (pendingIn (s .flags)) (of-both Answers (eqb (s .«data_msb») 0) refl (controller-answers s _)) refl
+
+  after-answered : (out : Translation) → Answers out → (s : ChannelState) → Answered (enteredAfter out g c s)
+  unfolding enteredAfter
+  after-answered (Words a b) h s = refl
+  after-answered Nothing h s = of-both Answered (mcmSelected s) (pending-answers s) refl
+  after-answered OutOfRange h s = h
+
+  lsb-answered : (s : ChannelState) (v : ℕ) → Answered (lsbEntered g c s v)
+  unfolding lsbEntered
+  lsb-answered s v =
+      of-both Answered (nullAfterIn (s .flags)) (pending-answers s)
+      (of-both Answered (eqb (s .«data_msb») 0) refl (controller-answers s _))
+
+  control-answered : (s : ChannelState) (n v : ℕ) → Answered (controlChanged g c s n v)
+  unfolding controlChanged
+  control-answered s n v =
+      of-both Answered (eqb n 0) refl
+      (of-both Answered (eqb n 6) (after-answered (pendingWords g c s) (pending-answers s) (entered (pendingSent s) v))
+      (of-both Answered (eqb n 32) refl
+      (of-both Answered (eqb n 38) (lsb-answered s v)
+      (of-both Answered (eqb n 121) refl
+      (of-both Answered (ltb n 98) refl
+      (of-both Answered (ltb 101 n) refl (pending-answers s)))))))
+
+  program-answers : (s : ChannelState) (p : ℕ) → Answers (programWords g c s p)
+  unfolding programWords
+  program-answers s p = of-both Answers (eqb (s .«bank_msb») 0) (of-both Answers (eqb (s .«bank_lsb») 0) refl refl) refl
+
+  step-answered : (s : ChannelState) (o a b : ℕ) → Answered (messageStep g c s o a b)
+  unfolding messageStep
+  step-answered s o a b =
+      of-both Answered (eqb o 0x8) refl
+      (of-both Answered (eqb o 0x9) (of-both Answered (eqb b 0) refl refl)
+      (of-both Answered (eqb o 0xA) refl
+      (of-both Answered (eqb o 0xB) (control-answered s a b)
+      (of-both Answered (eqb o 0xC) (program-answers s a)
+      (of-both Answered (eqb o 0xD) refl refl)))))
+
+-- each byte of a channel that is allowed
+bytes-allowed : (s : ChannelState) → Allowed s → Each (λ k. byteAllowed k (byteOf s k) ≡ true) 8
+bytes-allowed s a =
+    nothing
+    and le-leb _ _ (a .rpn-msb)
+    and le-leb _ _ (a .rpn-lsb)
+    and le-leb _ _ (a .nrpn-msb)
+    and le-leb _ _ (a .nrpn-lsb)
+    and le-leb _ _ (a .data-msb)
+    and le-leb _ _ (a .bank-msb)
+    and le-leb _ _ (a .bank-lsb)
+    and a .flags-of
+
+-- a call on a record that is allowed
+answered : (r : Midi1ToMidi2Group) → Formed r → (call : TranslatorCall) → ofMessage call ≡ true → isGiven (answerTo r call) ≡ true
+answered r f (translate-words w) m = rw (f .allowed, m) (step-answered _ _ _ _ _ _)
+answered r f (flush g c) m = rw (f .allowed) (pending-answers (g % 16) (c % 16) (stateOn r (c % 16)))
+answered r f reset m = refl
+
+pub exactly-accepted : ExactlyAccepted newRecord
+exactly-accepted =
+    record {
+      kept =
+          λ calls c k h l.
+          let f = always-formed newRecord new-formed calls in
+          at (bytes-allowed (stateOn (afterCalls newRecord calls) c) (on-allowed (afterCalls newRecord calls) f c h)) k l;
+      answered = λ calls call m. answered (afterCalls newRecord calls) (always-formed newRecord new-formed calls) call m;
+      reached = λ c k x h l a. leads c h k x l a;
+    }
+
+-- a byte that is not accepted
+state-refused : (s : ChannelState) (k : ℕ) → k < 8 → byteAllowed k (byteOf s k) ≡ false → stateAllowed s ≡ false
+state-refused s k l n =
+    by-test (stateAllowed s)
+    (λ e. absurd (true≢false (sym (at (bytes-allowed s (parts-allowed s e)) k l) ∙ n)))
+    (λ e. e)
+
+pub others-refused : (r : Midi1ToMidi2Group) → OthersRefused r
+others-refused r =
+    record {
+      message-refused =
+          λ c k w h l n.
+          let e : recordAllowed r ≡ false = one-refused (r .state) 16 c h (state-refused (stateOn r c) k l n) in
+          (rw e, rw e);
+      flush-refused =
+          λ c k g d h l n.
+          let e : recordAllowed r ≡ false = one-refused (r .state) 16 c h (state-refused (stateOn r c) k l n) in
+          (rw e, rw e);
+    }
+
+-- the words of a list, from its first message on
+pub continues : (r : Midi1ToMidi2Group) (w : ℕ) (answer : Outcome (List ℕ)) (left : Midi1ToMidi2Group)
+    → answer ≡ translationOf r w → left ≡ recordAfter r w → ListContinues r w answer left
+unfolding wordsFrom
+continues r w answer left e l ws = λ i. wordsIn (sym e i) ++ wordsFrom (sym l i) ws

@@ -1,0 +1,162 @@
+-- Each value that a byte may have is given by the list of messages beside it.
+-- Assumes nothing.
+use mathlib.Core.Path.{_≡_, refl, sym, ap, subst, _∙_}
+use mathlib.Core.Bool.{Bool, true, false, _&&_, true≢false}
+use mathlib.Core.Logic.{⊎-elim}
+use mathlib.Core.List.{List, [], _∷_, map}
+use Prim.Native.Nat.{ℕ, zero, suc, _+_, _-_, _<_, _≤_}
+use native.Mathlib.Nat.{eq-or-lt-of-le, not-suc-le-zero, le-of-suc-le-suc}
+use native.Mathlib.Omega.{arith}
+use borrow.Author.Tests.{eqb-true, eqb-false, leb-true}
+use lib.Dec.{eqb}
+use lib.ListN.{getD-replicate}
+use Rattle.ump.specs.Choice.{if_then_else_}
+use Rattle.ump.specs.Field.{field}
+use Rattle.ump.specs.Word.{opcodeOf, channelOf, firstOf, secondOf, wordForm, wordOf}
+use Rattle.ump.proofs.Cases.{by-test}
+use Rattle.ump.proofs.Words.{PartsFit, group-of-word, opcode-of-word, channel-of-word, first-of-word, second-of-word, form-of-word}
+use Rattle.translate.specs.declared.ChannelState.{ChannelState}
+use Rattle.translate.specs.declared.Midi1ToMidi2Group.{Midi1ToMidi2Group}
+use Rattle.translate.specs.Carried.{emptyState, newRecord, stateOn, flagsAllowed}
+use Rattle.translate.specs.Translate.{pendingWords, pendingSent, selected, mcmSelected, enteredAfter, controllersReset, controlChanged, messageStep, withState, recordAfter}
+use Rattle.translate.specs.Lists.{translate-words, afterCalls, byteOf, byteAllowed, control, controllerOf, leadingToFlags, leadingTo, allMessages}
+use Rattle.translate.proofs.Flags.{flags-lt}
+use Rattle.translate.proofs.Always.{Formed, new-formed, on-set, after-formed}
+
+-- a fact of each number below n
+pub data Each (P : ℕ → Type 0) : ℕ → Type 0 where
+  nothing : Each P zero
+  _and_ : {n : ℕ} → Each P n → P n → Each P (suc n)
+
+infixl 1 _and_
+pub at : {P : ℕ → Type 0} {n : ℕ} → Each P n → (k : ℕ) → k < n → P k
+at nothing k h = absurd (not-suc-le-zero h)
+at {P} (all and p) k h =
+    ⊎-elim (λ (e : k ≡ _). subst P (sym e) p) (λ b. at all k b) (eq-or-lt-of-le (le-of-suc-le-suc h))
+
+-- a control change, by the fields of its word
+pub after-control : (r : Midi1ToMidi2Group) → Formed r → (w g c n v : ℕ) → wordForm w ≡ true → field 24 4 w ≡ g → channelOf w ≡ c → opcodeOf w ≡ 0xB → firstOf w ≡ n → secondOf w ≡ v
+    → recordAfter r w ≡ withState r c (controlChanged g c (stateOn r c) n v .state)
+unfolding messageStep
+after-control r f w g c n v form eg ec eo en ev =
+    rw (f .allowed, form)
+    (λ i. withState r (ec i) (messageStep (eg i) (ec i) (stateOn r (ec i)) (eo i) (en i) (ev i) .state))
+
+module _ (c : ℕ) (h : c < 16) where
+  -- the state that a control change leaves
+  abbrev left : ChannelState → ℕ → ℕ → ChannelState
+  left s n v = controlChanged 0 c s n v .state
+
+  fit : (n v : ℕ) → n < 128 → v < 128 → PartsFit 0 0xB c n v
+  fit n v a b =
+      record { group-lt = omega arith; opcode-lt = omega arith; channel-lt = h; first-lt = a; second-lt = b }
+
+  pub control-form : (n v : ℕ) → n < 128 → v < 128 → wordForm (control c n v) ≡ true
+  control-form n v a b = form-of-word 0 0xB c n v (fit n v a b) (omega arith) (omega arith) (λ z. absurd (true≢false (sym z)))
+
+  pub one : (r : Midi1ToMidi2Group) → Formed r → (n v : ℕ) → n < 128 → v < 128 → stateOn (recordAfter r (control c n v)) c ≡ left (stateOn r c) n v
+  one r f n v a b =
+      let p = fit n v a b in
+      ap (λ q. stateOn q c)
+      (after-control r f (control c n v) 0 c n v (control-form n v a b) (group-of-word 0 0xB c n v p) (channel-of-word 0 0xB c n v p) (opcode-of-word 0 0xB c n v p) (first-of-word 0 0xB c n v p) (second-of-word 0 0xB c n v p))
+      ∙ on-set r f c (left (stateOn r c) n v) h
+
+  two : (r : Midi1ToMidi2Group) → Formed r → (n v m u : ℕ) → n < 128 → v < 128 → m < 128 → u < 128
+      → stateOn (recordAfter (recordAfter r (control c n v)) (control c m u)) c ≡ left (left (stateOn r c) n v) m u
+  two r f n v m u a b d e =
+      one (recordAfter r (control c n v)) (after-formed r f (translate-words (control c n v))) m u d e
+      ∙ ap (λ s. left s m u) (one r f n v a b)
+
+  -- Reset All Controllers after two others
+  then-121 : (r : Midi1ToMidi2Group) → Formed r → (n v m u : ℕ) → n < 128 → v < 128 → m < 128 → u < 128
+      → stateOn (recordAfter (recordAfter (recordAfter r (control c n v)) (control c m u)) (control c 121 0)) c ≡ left (left (left (stateOn r c) n v) m u) 121 0
+  then-121 r f n v m u a b d e =
+      two (recordAfter r (control c n v)) (after-formed r f (translate-words (control c n v))) m u 121 0 d e (omega arith) (omega arith)
+      ∙ ap (λ s. left (left s m u) 121 0) (one r f n v a b)
+
+  empty : stateOn newRecord c ≡ emptyState
+  empty = getD-replicate 16 c emptyState emptyState h
+
+  -- messages that give byte k the value x
+  abbrev Leads : ℕ → ℕ → List ℕ → Type 0
+  Leads k x ws =
+      (allMessages ws ≡ true) × (byteOf (stateOn (afterCalls newRecord (map translate-words ws)) c) k ≡ x)
+
+  by-none : (k : ℕ) → byteOf emptyState k ≡ 0 → Leads k 0 []
+  unfolding allMessages afterCalls
+  by-none k e = (refl, rw empty e)
+
+  by-one : (k x n v : ℕ) → n < 128 → v < 128 → byteOf (left emptyState n v) k ≡ x → Leads k x (control c n v ∷ [])
+  unfolding allMessages afterCalls
+  by-one k x n v a b e = (rw (control-form n v a b), rw (one newRecord new-formed n v a b, empty) e)
+
+  by-two : (x n v m u : ℕ) → n < 128 → v < 128 → m < 128 → u < 128 → left (left emptyState n v) m u .flags ≡ x → Leads 7 x (control c n v ∷ control c m u ∷ [])
+  unfolding allMessages afterCalls
+  by-two x n v m u a b d e g =
+      (rw (control-form n v a b, control-form m u d e), rw (two newRecord new-formed n v m u a b d e, empty) g)
+
+  by-three : (x n v m u : ℕ) → n < 128 → v < 128 → m < 128 → u < 128 → left (left (left emptyState n v) m u) 121 0 .flags ≡ x
+      → Leads 7 x (control c n v ∷ control c m u ∷ control c 121 0 ∷ [])
+  unfolding allMessages afterCalls
+  by-three x n v m u a b d e g = (
+    rw (control-form n v a b, control-form m u d e, control-form 121 0 (omega arith) (omega arith)),
+    rw (then-121 newRecord new-formed n v m u a b d e, empty) g,
+  )
+
+  none-allowed : {P : Type 0} → false ≡ true → P
+  none-allowed e = absurd (true≢false (sym e))
+
+  abbrev FlagsLead : ℕ → Type 0
+  FlagsLead x = flagsAllowed x ≡ true → Leads 7 x (leadingToFlags c x)
+
+  flags-lead : Each FlagsLead 16
+  unfolding leadingToFlags controlChanged selected pendingSent pendingWords enteredAfter mcmSelected controllersReset
+  flags-lead =
+      nothing
+      and (λ a. by-none 7 refl)
+      and (λ a. by-one 7 1 101 0 (omega arith) (omega arith) refl)
+      and (λ a. by-one 7 2 99 0 (omega arith) (omega arith) refl)
+      and none-allowed
+      and (λ a. by-one 7 4 6 0 (omega arith) (omega arith) refl)
+      and (λ a. by-two 5 101 0 6 0 (omega arith) (omega arith) (omega arith) (omega arith) refl)
+      and (λ a. by-two 6 99 0 6 0 (omega arith) (omega arith) (omega arith) (omega arith) refl)
+      and none-allowed
+      and none-allowed
+      and none-allowed
+      and none-allowed
+      and none-allowed
+      and (λ a. by-two 12 6 0 121 0 (omega arith) (omega arith) (omega arith) (omega arith) refl)
+      and (λ a. by-three 13 101 0 6 0 (omega arith) (omega arith) (omega arith) (omega arith) refl)
+      and (λ a. by-three 14 99 0 6 0 (omega arith) (omega arith) (omega arith) (omega arith) refl)
+      and none-allowed
+
+  -- a held byte: no message, or one of its controller
+  held-lead : (k : ℕ) → controllerOf k < 128 → byteOf emptyState k ≡ 0
+      → ((v : ℕ) → byteOf (left emptyState (controllerOf k) v) k ≡ v + 1)
+      → (x : ℕ) → x ≤ 128 → Leads k x (if eqb x 0 then [] else control c (controllerOf k) (x - 1) ∷ [])
+  held-lead k n e f x l =
+      by-test (eqb x 0)
+      (λ z. rw (z, eqb-true x 0 z) (by-none k e))
+      (λ z.
+      let p : x ≡ 0 → ⊥ = eqb-false x 0 z in
+      let q : x - 1 + 1 ≡ x = omega arith in
+      rw z (by-one k x (controllerOf k) (x - 1) n (omega arith) (f (x - 1) ∙ q)))
+
+  abbrev ByteLead : ℕ → Type 0
+  ByteLead k = (x : ℕ) → byteAllowed k x ≡ true → Leads k x (leadingTo c k x)
+
+  bytes-lead : Each ByteLead 8
+  unfolding leadingTo controlChanged selected pendingSent pendingWords enteredAfter mcmSelected
+  bytes-lead =
+      nothing
+      and (λ x a. held-lead 0 (omega arith) refl (λ v. refl) x (leb-true x 128 a))
+      and (λ x a. held-lead 1 (omega arith) refl (λ v. refl) x (leb-true x 128 a))
+      and (λ x a. held-lead 2 (omega arith) refl (λ v. refl) x (leb-true x 128 a))
+      and (λ x a. held-lead 3 (omega arith) refl (λ v. refl) x (leb-true x 128 a))
+      and (λ x a. held-lead 4 (omega arith) refl (λ v. refl) x (leb-true x 128 a))
+      and (λ x a. held-lead 5 (omega arith) refl (λ v. refl) x (leb-true x 128 a))
+      and (λ x a. held-lead 6 (omega arith) refl (λ v. refl) x (leb-true x 128 a))
+      and (λ x a. at flags-lead x (flags-lt x a) a)
+
+  pub leads : (k x : ℕ) → k < 8 → byteAllowed k x ≡ true → Leads k x (leadingTo c k x)
+  leads k x l a = at bytes-lead k l x a

@@ -1,0 +1,131 @@
+-- Lists of calls on one record, and the words of a list of messages (document 02, 2026-02).
+use mathlib.Core.Path.{_≡_}
+use mathlib.Core.Bool.{Bool, true, false, _&&_}
+use mathlib.Core.List.{List, [], _∷_, _++_, map}
+use Prim.Native.Nat.{ℕ, _-_, _<_}
+use lib.Dec.{eqb}
+use Rattle.ump.specs.Choice.{if_then_else_}
+use Rattle.ump.specs.Outcome.{Outcome, given, declined, outOfRange}
+use Rattle.ump.specs.Word.{wordForm, wordOf}
+use Rattle.translate.specs.declared.ChannelState.{ChannelState}
+use Rattle.translate.specs.declared.Midi1ToMidi2Group.{Midi1ToMidi2Group}
+use Rattle.translate.specs.Carried.{newRecord, stateOn, heldAllowed, flagsAllowed}
+use Rattle.translate.specs.Translate.{translationOf, recordAfter, flushReply, flushedRecord}
+
+-- the calls on a record: a message's word, a flush of a group and a channel, a reset
+pub data TranslatorCall : Type 0 where
+  translate-words : ℕ → TranslatorCall
+  flush : ℕ → ℕ → TranslatorCall
+  reset : TranslatorCall
+
+-- what a call answers
+abbrev pub answerTo : Midi1ToMidi2Group → TranslatorCall → Outcome (List ℕ)
+answerTo r (translate-words w) = translationOf r w
+answerTo r (flush g c) = flushReply r g c
+answerTo r reset = given []
+
+-- the record after a call
+abbrev pub afterCall : Midi1ToMidi2Group → TranslatorCall → Midi1ToMidi2Group
+afterCall r (translate-words w) = recordAfter r w
+afterCall r (flush g c) = flushedRecord r g c
+afterCall r reset = newRecord
+
+-- a call gives this answer and leaves this record: what the contract of each call says
+abbrev pub CallGives : Midi1ToMidi2Group → TranslatorCall → Outcome (List ℕ) → Midi1ToMidi2Group → Type 0
+CallGives r call answer left = (answer ≡ answerTo r call) × (left ≡ afterCall r call)
+
+-- the record after a list of calls
+unfoldable pub afterCalls : Midi1ToMidi2Group → List TranslatorCall → Midi1ToMidi2Group
+afterCalls r [] = r
+afterCalls r (call ∷ calls) = afterCalls (afterCall r call) calls
+
+-- the words that an answer gives
+abbrev pub wordsIn : Outcome (List ℕ) → List ℕ
+wordsIn (given words) = words
+wordsIn (declined n v) = []
+
+-- the words of a list of messages, from a record
+unfoldable pub wordsFrom : Midi1ToMidi2Group → List ℕ → List ℕ
+wordsFrom r [] = []
+wordsFrom r (w ∷ ws) = wordsIn (translationOf r w) ++ wordsFrom (recordAfter r w) ws
+
+-- the words of a list of messages, from a new record
+abbrev pub wordsOf : List ℕ → List ℕ
+wordsOf ws = wordsFrom newRecord ws
+
+-- the first message gives its words, and the rest theirs from the record that it leaves: what the contract of `translate_words` says
+abbrev pub ListContinues : Midi1ToMidi2Group → ℕ → Outcome (List ℕ) → Midi1ToMidi2Group → Type 0
+ListContinues r w answer left = (ws : List ℕ) → wordsFrom r (w ∷ ws) ≡ wordsIn answer ++ wordsFrom left ws
+
+-- a byte of a channel, by its place among the eight
+abbrev pub byteOf : ChannelState → ℕ → ℕ
+byteOf s k =
+    if eqb k 0 then s .«rpn_msb» else if eqb k 1 then s .«rpn_lsb» else if eqb k 2 then s .«nrpn_msb» else
+    if eqb k 3 then s .«nrpn_lsb» else if eqb k 4 then s .«data_msb» else if eqb k 5 then s .«bank_msb» else
+    if eqb k 6 then s .«bank_lsb» else s .flags
+
+-- a value that is accepted for it
+abbrev pub byteAllowed : ℕ → ℕ → Bool
+byteAllowed k x = if eqb k 7 then flagsAllowed x else heldAllowed x
+
+-- a Control Change of group 0
+abbrev pub control : ℕ → ℕ → ℕ → ℕ
+control c n v = wordOf 0 0xB c n v
+
+-- the controller that gives a held byte its value
+abbrev pub controllerOf : ℕ → ℕ
+controllerOf k =
+    if eqb k 0 then 101 else if eqb k 1 then 100 else if eqb k 2 then 99 else if eqb k 3 then 98 else
+    if eqb k 4 then 6 else if eqb k 5 then 0 else 32
+
+-- messages on channel c that give its flags a value, for each of the nine
+unfoldable pub leadingToFlags : ℕ → ℕ → List ℕ
+leadingToFlags c f =
+    if eqb f 1 then control c 101 0 ∷ [] else
+    if eqb f 2 then control c 99 0 ∷ [] else
+    if eqb f 4 then control c 6 0 ∷ [] else
+    if eqb f 5 then control c 101 0 ∷ control c 6 0 ∷ [] else
+    if eqb f 6 then control c 99 0 ∷ control c 6 0 ∷ [] else
+    if eqb f 12 then control c 6 0 ∷ control c 121 0 ∷ [] else
+    if eqb f 13 then control c 101 0 ∷ control c 6 0 ∷ control c 121 0 ∷ [] else
+    if eqb f 14 then control c 99 0 ∷ control c 6 0 ∷ control c 121 0 ∷ [] else
+    []
+
+-- messages on channel c that give its byte k the value x
+unfoldable pub leadingTo : ℕ → ℕ → ℕ → List ℕ
+leadingTo c k x =
+    if eqb k 7 then leadingToFlags c x else if eqb x 0 then [] else control c (controllerOf k) (x - 1) ∷ []
+
+-- each word of a list has the word form
+unfoldable pub allMessages : List ℕ → Bool
+allMessages [] = true
+allMessages (w ∷ ws) = wordForm w && allMessages ws
+
+-- a call whose word, where it has one, is a message
+abbrev pub ofMessage : TranslatorCall → Bool
+ofMessage (translate-words w) = wordForm w
+ofMessage (flush g c) = true
+ofMessage reset = true
+
+abbrev pub isGiven : Outcome (List ℕ) → Bool
+isGiven (given words) = true
+isGiven (declined n v) = false
+
+-- of a new record: the values that a byte may have are exactly those that are accepted
+pub record ExactlyAccepted (new : Midi1ToMidi2Group) : Type 0 where
+  -- whatever calls it has had, each byte of each channel has a value that is accepted
+  pub kept : (calls : List TranslatorCall) (c k : ℕ) → c < 16 → k < 8
+      → byteAllowed k (byteOf (stateOn (afterCalls new calls) c) k) ≡ true
+  -- so that no call is declined but one whose word is no message
+  pub answered : (calls : List TranslatorCall) (call : TranslatorCall) → ofMessage call ≡ true
+      → isGiven (answerTo (afterCalls new calls) call) ≡ true
+  -- and each value that is accepted is given by some list of messages
+  pub reached : (c k x : ℕ) → c < 16 → k < 8 → byteAllowed k x ≡ true
+      → (allMessages (leadingTo c k x) ≡ true) × (byteOf (stateOn (afterCalls new (map translate-words (leadingTo c k x))) c) k ≡ x)
+
+-- a record with another value in some byte, of whichever channel, is out of range for every message and every flush, and stays
+pub record OthersRefused (r : Midi1ToMidi2Group) : Type 0 where
+  pub message-refused : (c k w : ℕ) → c < 16 → k < 8 → byteAllowed k (byteOf (stateOn r c) k) ≡ false
+      → CallGives r (translate-words w) outOfRange r
+  pub flush-refused : (c k g d : ℕ) → c < 16 → k < 8 → byteAllowed k (byteOf (stateOn r c) k) ≡ false
+      → CallGives r (flush g d) outOfRange r
