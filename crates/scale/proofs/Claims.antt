@@ -16,8 +16,8 @@ use Rattle.ump.proofs.Cases.{by-test}
 use Rattle.scale.specs.declared.Scaled.{Scaled}
 use Rattle.scale.specs.Scale.{scaledRead, widens, narrows, repeated, widened, narrowed, zeroExtended, rounded, upscaled, downscaled, zeroUpscaled, zeroDownscaled}
 use Rattle.scale.specs.Claims.{OfValue, Widened, OneWidened, UpscaleKeeps, UpscaleRises, DownscaleReturns, ZeroDownscaleReturns, ZeroExtended, NearestUp, HalfAbove, Rounded}
-use Rattle.scale.specs.Examples.{TableHolds, table, scaleAnswer}
-use Rattle.scale.proofs.Range.{Ranged, widening, narrowing, narrows-holds}
+use Rattle.scale.specs.Examples.{ScalesAsTabled, scaleTable, scaleAnswer}
+use Rattle.scale.proofs.Range.{both, Ranged, widening, narrowing, narrows-holds}
 use Rattle.scale.proofs.Repeat.{bits, only}
 use Rattle.scale.proofs.Widen.{by-widening, widened-lt, widened-back, widened-rises, zero-extended-lt, upscaled-given}
 
@@ -25,12 +25,6 @@ use Rattle.scale.proofs.Widen.{by-widening, widened-lt, widened-back, w
 gave : (b : Bool) (y x : ℕ) → (if b then given y else outOfRange) ≡ given x → (b ≡ true) × (x ≡ y)
 gave true y x e = (refl, cc)
 gave false y x e =
-    let z : _≡_ {A = ℕ} 0 1 = cc in
-    absurd (omega arith)
-
-both : (a b : Bool) → (a && b) ≡ true → (a ≡ true) × (b ≡ true)
-both true b h = (refl, h)
-both false b h =
     let z : _≡_ {A = ℕ} 0 1 = cc in
     absurd (omega arith)
 
@@ -128,8 +122,8 @@ rises s d v w x y e f h =
     let b = upscaled-told w s d y f in
     omega (arith, a .1, b .1, widened-rises s d v w (a .0) (b .0) h)
 
-pub table-holds : TableHolds
-unfolding table scaleAnswer upscaled downscaled zeroUpscaled zeroDownscaled widens narrows widened narrowed zeroExtended rounded repeated
+pub table-holds : ScalesAsTabled
+unfolding scaleTable scaleAnswer upscaled downscaled zeroUpscaled zeroDownscaled widens narrows widened narrowed zeroExtended rounded repeated
 table-holds = refl
 
 -- narrowing a widened value returns it
@@ -210,7 +204,7 @@ rounded-is v s d x e =
 pub upscale-claims :
     (r : Scaled) (v s d : ℕ) → scaledRead r ≡ upscaled v s d →
     (scaledRead r ≡ upscaled v s d)
-    × (OfValue r (Widened s d v) × (OfValue r (OneWidened s d v) × (UpscaleKeeps s d × (UpscaleRises s d × TableHolds))))
+    × (OfValue r (Widened s d v) × (OfValue r (OneWidened s d v) × (UpscaleKeeps s d × (UpscaleRises s d × ScalesAsTabled))))
 upscale-claims r v s d e = (
   e,
   (

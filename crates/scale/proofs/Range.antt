@@ -18,7 +18,7 @@ pub record Ranged (few many p v : ℕ) : Type 0 where
   pub more : few < many
   pub fits : v < p
 
-both : (a b : Bool) → (a && b) ≡ true → (a ≡ true) × (b ≡ true)
+pub both : (a b : Bool) → (a && b) ≡ true → (a ≡ true) × (b ≡ true)
 both true b h = (refl, h)
 both false b h = absurd (true≢false (sym h))
 

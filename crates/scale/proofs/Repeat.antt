@@ -19,7 +19,7 @@ use Rattle.scale.specs.Scale.{repeated}
 -- the added bit is the lowest
 halved : (s v k : ℕ) → repeated s v (suc k) / 2 ≡ repeated s v k
 unfolding repeated
-halved s v k = digits-div (repeated s v k) (field-lt (s - 2) 1 (repeated s v k))
+halved s v k = digits-div (repeated s v k) (field-lt _ 1 (repeated s v k))
 
 lowest : (s v k : ℕ) → repeated s v (suc k) % 2 ≡ field (s - 2) 1 (repeated s v k)
 unfolding repeated

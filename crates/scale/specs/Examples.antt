@@ -19,15 +19,15 @@ scaleAnswer (downscale v s d) = downscaled v s d
 scaleAnswer (zero-extend-upscale v s d) = zeroUpscaled v s d
 scaleAnswer (zero-extend-downscale v s d) = zeroDownscaled v s d
 
-pub record Example : Type 0 where
+pub record ScaleExample : Type 0 where
   pub call : ScaleCall
   pub answer : Outcome ℕ
 
-abbrev example : ScaleCall → Outcome ℕ → Example
+abbrev example : ScaleCall → Outcome ℕ → ScaleExample
 example c a = record { call = c; answer = a }
 
-unfoldable pub table : List Example
-table =
+unfoldable pub scaleTable : List ScaleExample
+scaleTable =
     example (upscale 0x2000 14 32) (given 0x80000000)
     ∷ example (upscale 0x3FFF 14 32) (given 0xFFFFFFFF)
     ∷ example (upscale 127 7 32) (given 0xFFFFFFFF)
@@ -52,5 +52,5 @@ table =
     ∷ []
 
 -- each call of the table gives the answer beside it
-abbrev pub TableHolds : Type 0
-TableHolds = map (λ e. scaleAnswer (e .call)) table ≡ map (λ e. e .answer) table
+abbrev pub ScalesAsTabled : Type 0
+ScalesAsTabled = map (λ e. scaleAnswer (e .call)) scaleTable ≡ map (λ e. e .answer) scaleTable

@@ -1,10 +1,10 @@
 // Scaling of values between resolutions (scale.rs; M2-115): Min-Center-Max Scaling (3), and Zero-Extension Scaling with Rounding (4).
 ghost use mathlib.Core.Path.{_≡_};
-ghost use Prim.Native.Nat.{_-_, _*_, _/_, _^_, _<_, _≤_};
+ghost use Prim.Native.Nat.{_-_, _*_, _/_, _%_, _^_, _<_, _≤_};
 ghost use lib.Dec.{ltb};
 ghost use Rattle.scale.specs.Scale.{scaledRead, widens, narrows, repeated, widened, upscaled, downscaled, zeroUpscaled, zeroDownscaled};
 ghost use Rattle.scale.specs.Claims.{OfValue, Widened, OneWidened, UpscaleKeeps, UpscaleRises, DownscaleReturns, ZeroExtended, Rounded, ZeroDownscaleReturns};
-ghost use Rattle.scale.specs.Examples.{TableHolds};
+ghost use Rattle.scale.specs.Examples.{ScalesAsTabled};
 
 // What a call answers: the scaled value, or out of range.
 pub enum Scaled {
@@ -65,6 +65,14 @@ fn can_downscale(value: u32, src_bits: u8, dst_bits: u8) -> bool
     fits(value, src_bits)
 }
 
+// The low bits of a value, this many.
+fn low_bits(value: u32, bits: u8) -> u32
+    requires { ⌜ (1 ≤ bits) × (bits < 32) ⌝ }
+    ensures { λ r. ⌜ r ≡ value % 2 ^ bits ⌝ }
+{
+    value & ((1u32 << bits) - 1)
+}
+
 // The bits that are repeated, at the highest place below the value's own.
 fn first_repeat(bits: u32, repeat_bits: u8, scale_bits: u8) -> u32
     requires { ⌜ (bits < 2 ^ «repeat_bits») × («repeat_bits» < 32) × («scale_bits» < 32) ⌝ }
@@ -84,7 +92,7 @@ fn bit_repeated(value: u32, src_bits: u8, dst_bits: u8) -> u32
     let scale_bits = dst_bits - src_bits;
     let repeat_bits = src_bits - 1;
     let mut result = value << scale_bits;
-    let mut repeat = first_repeat(value & ((1u32 << repeat_bits) - 1), repeat_bits, scale_bits);
+    let mut repeat = first_repeat(low_bits(value, repeat_bits), repeat_bits, scale_bits);
     while repeat != 0 {
         result += repeat;
         repeat >>= repeat_bits;
@@ -117,7 +125,7 @@ pub fn upscale(value: u32, src_bits: u8, dst_bits: u8) -> Scaled
     ensures one { λ r. ⌜ OfValue r (OneWidened «src_bits» «dst_bits» value) ⌝ }
     ensures kept { λ _. ⌜ UpscaleKeeps «src_bits» «dst_bits» ⌝ }
     ensures rises { λ _. ⌜ UpscaleRises «src_bits» «dst_bits» ⌝ }
-    ensures examples { λ _. ⌜ TableHolds ⌝ }
+    ensures examples { λ _. ⌜ ScalesAsTabled ⌝ }
 {
     if can_upscale(value, src_bits, dst_bits) {
         return Scaled::Value(min_center_max(value, src_bits, dst_bits));
@@ -163,8 +171,8 @@ pub fn zero_extend_downscale(value: u32, src_bits: u8, dst_bits: u8) -> Scaled
     let half = 1u64 << (scale_bits - 1);
     let shifted = (value as u64 + half) >> scale_bits;
     let max = max_value(dst_bits);
-    if shifted > max as u64 {
-        return Scaled::Value(max);
+    if shifted <= max as u64 {
+        return Scaled::Value(shifted as u32);
     }
-    Scaled::Value(shifted as u32)
+    Scaled::Value(max)
 }

@@ -1,26 +1,25 @@
 -- What every list of calls on a new record leaves: sixteen channels, each of them allowed.
 -- Assumes nothing.
-use mathlib.Core.Path.{_≡_, refl, sym, _∙_}
-use mathlib.Core.Bool.{Bool, true, false}
+use mathlib.Core.Path.{_≡_, refl, _∙_}
+use mathlib.Core.Bool.{true, false}
 use mathlib.Core.List.{List, [], _∷_}
 use Prim.Native.Nat.{ℕ, _%_, _<_}
 use native.Mathlib.Nat.{mod-lt}
-use native.Mathlib.Omega.{arith}
 use borrow.Author.Tests.{eqb-true, eqb-false}
 use lib.Dec.{eqb, lit<}
 use lib.ListN.{length, getD, set, length-set}
 use lib.Seq.{getD-set-same, getD-set-other}
-use Rattle.ump.specs.Choice.{if_then_else_}
-use Rattle.ump.specs.Word.{channelOf, secondOf, wordForm}
+use Rattle.ump.specs.Word.{channelOf, wordForm}
 use Rattle.ump.proofs.Cases.{by-test, of-both}
 use Rattle.ump.proofs.Cut.{field-lt}
-use Rattle.translate.specs.declared.ChannelState.{ChannelState}
-use Rattle.translate.specs.declared.Midi1ToMidi2Group.{Midi1ToMidi2Group}
-use Rattle.translate.specs.Carried.{emptyState, newRecord, stateOn, stateAllowed, allowedTo, recordAllowed}
-use Rattle.translate.specs.Translate.{withState, recordAfter, flushedRecord}
-use Rattle.translate.specs.Lists.{TranslatorCall, translate-words, flush, reset, afterCall, afterCalls}
-use Rattle.translate.proofs.Allowed.{Allowed, parts-allowed, of-parts, each-allowed, all-allowed}
-use Rattle.translate.proofs.Kept.{sent-kept, step-kept}
+use Rattle.translate_state.specs.declared.ChannelState.{ChannelState}
+use Rattle.translate_state.specs.declared.Midi1ToMidi2Group.{Midi1ToMidi2Group}
+use Rattle.translate_state.specs.State.{emptyState, newRecord, stateOn, stateAllowed, allowedTo, recordAllowed}
+use Rattle.translate.specs.Translate.{withState}
+use Rattle.translate.specs.Lists.{TranslatorCall, translate-words, flush, reset, translatorAfter, translatorAfterAll}
+use Rattle.translate_state.proofs.Allowed.{Allowed, parts-allowed, of-parts, each-allowed, all-allowed}
+use Rattle.translate_state.proofs.Kept.{sent-kept}
+use Rattle.translate.proofs.Kept.{step-kept}
 
 -- sixteen channels, and each of them allowed
 pub record Formed (r : Midi1ToMidi2Group) : Type 0 where
@@ -55,12 +54,12 @@ module _ (r : Midi1ToMidi2Group) (f : Formed r) where
             (λ e. rw (on-other c k s (eqb-false k c e)) (each-allowed (r .state) 16 (f .allowed) k b)));
       }
 
-  pub after-formed : (call : TranslatorCall) → Formed (afterCall r call)
+  pub after-formed : (call : TranslatorCall) → Formed (translatorAfter r call)
   after-formed (translate-words w) =
       of-both Formed (recordAllowed r)
       (of-both Formed (wordForm w)
       (set-formed (channelOf w) _ (field-lt 16 4 w)
-      (step-kept (stateOn r (channelOf w)) (on-allowed (channelOf w) (field-lt 16 4 w)) _ _ _ _ (secondOf w) (field-lt 0 7 w)))
+      (step-kept _ _ (stateOn r (channelOf w)) (on-allowed (channelOf w) (field-lt 16 4 w)) _ _ _))
       f)
       f
   after-formed (flush g c) =
@@ -69,7 +68,7 @@ module _ (r : Midi1ToMidi2Group) (f : Formed r) where
       f
   after-formed reset = new-formed
 
-pub always-formed : (r : Midi1ToMidi2Group) → Formed r → (calls : List TranslatorCall) → Formed (afterCalls r calls)
-unfolding afterCalls
+pub always-formed : (r : Midi1ToMidi2Group) → Formed r → (calls : List TranslatorCall) → Formed (translatorAfterAll r calls)
+unfolding translatorAfterAll
 always-formed r f [] = f
-always-formed r f (call ∷ calls) = always-formed (afterCall r call) (after-formed r f call) calls
+always-formed r f (call ∷ calls) = always-formed (translatorAfter r call) (after-formed r f call) calls

@@ -1,23 +1,22 @@
 -- The values that a byte may have are those that are accepted, and no others: what `new` and `translate_words` promise.
 -- Assumes nothing.
 use mathlib.Core.Path.{_≡_, refl, sym, _∙_}
-use mathlib.Core.Bool.{Bool, true, false, true≢false}
-use mathlib.Core.List.{List, _∷_, _++_}
+use mathlib.Core.Bool.{true, false, true≢false}
+use mathlib.Core.List.{List, _++_}
 use Prim.Native.Nat.{ℕ, _%_, _<_}
 use borrow.Author.Tests.{le-leb}
 use lib.Dec.{ltb, eqb}
 use Rattle.ump.specs.Outcome.{Outcome}
-use Rattle.ump.specs.Word.{wordForm}
 use Rattle.ump.proofs.Cases.{by-test, of-both}
-use Rattle.translate.specs.declared.ChannelState.{ChannelState}
-use Rattle.translate.specs.declared.Midi1ToMidi2Group.{Midi1ToMidi2Group}
+use Rattle.translate_state.specs.declared.ChannelState.{ChannelState}
+use Rattle.translate_state.specs.declared.Midi1ToMidi2Group.{Midi1ToMidi2Group}
 use Rattle.translate.specs.declared.Translation.{Translation}
 use Rattle.translate.specs.declared.Translation.the-variants.{Words, Nothing, OutOfRange}
 use Rattle.translate.specs.declared.Stepped.{Stepped}
-use Rattle.translate.specs.Carried.{held, kindIn, pendingIn, nullAfterIn, newRecord, stateOn, stateAllowed, recordAllowed}
-use Rattle.translate.specs.Translate.{translationRead, translationOf, recordAfter, controllerNumbered, controller, pendingWords, pendingSent, mcmSelected, enteredAfter, entered, lsbEntered, controlChanged, programWords, messageStep}
-use Rattle.translate.specs.Lists.{TranslatorCall, translate-words, flush, reset, answerTo, afterCalls, wordsIn, wordsFrom, ListContinues, byteOf, byteAllowed, ofMessage, isGiven, ExactlyAccepted, OthersRefused}
-use Rattle.translate.proofs.Allowed.{Allowed, parts-allowed, one-refused}
+use Rattle.translate_state.specs.State.{held, kindIn, pendingIn, nullAfterIn, newRecord, stateOn, stateAllowed, recordAllowed, pendingSent, mcmSelected, entryHeld}
+use Rattle.translate.specs.Translate.{translationRead, translationOf, recordAfter, controllerNumbered, controller, pendingWords, enteredAfter, lsbEntered, controlChanged, programWords, messageTranslated}
+use Rattle.translate.specs.Lists.{TranslatorCall, translate-words, flush, reset, answerTo, translatorAfterAll, wordsAnswered, wordsFrom, ListContinues, byteOf, byteAllowed, ofMessage, isGiven, ExactlyAccepted, OthersRefused}
+use Rattle.translate_state.proofs.Allowed.{Allowed, parts-allowed, one-refused}
 use Rattle.translate.proofs.Always.{Formed, new-formed, on-allowed, always-formed}
 use Rattle.translate.proofs.Reached.{Each, nothing, _and_, at, leads}
 
@@ -63,7 +62,7 @@ module _ (g c : ℕ) where
   unfolding controlChanged
   control-answered s n v =
       of-both Answered (eqb n 0) refl
-      (of-both Answered (eqb n 6) (after-answered (pendingWords g c s) (pending-answers s) (entered (pendingSent s) v))
+      (of-both Answered (eqb n 6) (after-answered (pendingWords g c s) (pending-answers s) (entryHeld (pendingSent s) v))
       (of-both Answered (eqb n 32) refl
       (of-both Answered (eqb n 38) (lsb-answered s v)
       (of-both Answered (eqb n 121) refl
@@ -74,8 +73,8 @@ module _ (g c : ℕ) where
   unfolding programWords
   program-answers s p = of-both Answers (eqb (s .«bank_msb») 0) (of-both Answers (eqb (s .«bank_lsb») 0) refl refl) refl
 
-  step-answered : (s : ChannelState) (o a b : ℕ) → Answered (messageStep g c s o a b)
-  unfolding messageStep
+  step-answered : (s : ChannelState) (o a b : ℕ) → Answered (messageTranslated g c s o a b)
+  unfolding messageTranslated
   step-answered s o a b =
       of-both Answered (eqb o 0x8) refl
       (of-both Answered (eqb o 0x9) (of-both Answered (eqb b 0) refl refl)
@@ -109,8 +108,8 @@ exactly-accepted =
       kept =
           λ calls c k h l.
           let f = always-formed newRecord new-formed calls in
-          at (bytes-allowed (stateOn (afterCalls newRecord calls) c) (on-allowed (afterCalls newRecord calls) f c h)) k l;
-      answered = λ calls call m. answered (afterCalls newRecord calls) (always-formed newRecord new-formed calls) call m;
+          at (bytes-allowed (stateOn (translatorAfterAll newRecord calls) c) (on-allowed (translatorAfterAll newRecord calls) f c h)) k l;
+      answered = λ calls call m. answered (translatorAfterAll newRecord calls) (always-formed newRecord new-formed calls) call m;
       reached = λ c k x h l a. leads c h k x l a;
     }
 
@@ -138,4 +137,4 @@ others-refused r =
 pub continues : (r : Midi1ToMidi2Group) (w : ℕ) (answer : Outcome (List ℕ)) (left : Midi1ToMidi2Group)
     → answer ≡ translationOf r w → left ≡ recordAfter r w → ListContinues r w answer left
 unfolding wordsFrom
-continues r w answer left e l ws = λ i. wordsIn (sym e i) ++ wordsFrom (sym l i) ws
+continues r w answer left e l ws = λ i. wordsAnswered (sym e i) ++ wordsFrom (sym l i) ws

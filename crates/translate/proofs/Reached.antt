@@ -1,10 +1,10 @@
 -- Each value that a byte may have is given by the list of messages beside it.
 -- Assumes nothing.
 use mathlib.Core.Path.{_≡_, refl, sym, ap, subst, _∙_}
-use mathlib.Core.Bool.{Bool, true, false, _&&_, true≢false}
+use mathlib.Core.Bool.{true, false, true≢false}
 use mathlib.Core.Logic.{⊎-elim}
 use mathlib.Core.List.{List, [], _∷_, map}
-use Prim.Native.Nat.{ℕ, zero, suc, _+_, _-_, _<_, _≤_}
+use Prim.Native.Nat.{ℕ, zero, suc, _+_, _-_, _%_, _^_, _<_, _≤_}
 use native.Mathlib.Nat.{eq-or-lt-of-le, not-suc-le-zero, le-of-suc-le-suc}
 use native.Mathlib.Omega.{arith}
 use borrow.Author.Tests.{eqb-true, eqb-false, leb-true}
@@ -12,15 +12,15 @@ use lib.Dec.{eqb}
 use lib.ListN.{getD-replicate}
 use Rattle.ump.specs.Choice.{if_then_else_}
 use Rattle.ump.specs.Field.{field}
-use Rattle.ump.specs.Word.{opcodeOf, channelOf, firstOf, secondOf, wordForm, wordOf}
+use Rattle.ump.specs.Word.{opcodeOf, channelOf, firstOf, secondOf, wordForm}
 use Rattle.ump.proofs.Cases.{by-test}
 use Rattle.ump.proofs.Words.{PartsFit, group-of-word, opcode-of-word, channel-of-word, first-of-word, second-of-word, form-of-word}
-use Rattle.translate.specs.declared.ChannelState.{ChannelState}
-use Rattle.translate.specs.declared.Midi1ToMidi2Group.{Midi1ToMidi2Group}
-use Rattle.translate.specs.Carried.{emptyState, newRecord, stateOn, flagsAllowed}
-use Rattle.translate.specs.Translate.{pendingWords, pendingSent, selected, mcmSelected, enteredAfter, controllersReset, controlChanged, messageStep, withState, recordAfter}
-use Rattle.translate.specs.Lists.{translate-words, afterCalls, byteOf, byteAllowed, control, controllerOf, leadingToFlags, leadingTo, allMessages}
-use Rattle.translate.proofs.Flags.{flags-lt}
+use Rattle.translate_state.specs.declared.ChannelState.{ChannelState}
+use Rattle.translate_state.specs.declared.Midi1ToMidi2Group.{Midi1ToMidi2Group}
+use Rattle.translate_state.specs.State.{emptyState, newRecord, stateOn, flagsAllowed, pendingSent, selected, mcmSelected, entryHeld, controllersReset}
+use Rattle.translate.specs.Translate.{pendingWords, enteredAfter, controlChanged, messageTranslated, withState, recordAfter}
+use Rattle.translate.specs.Lists.{translate-words, translatorAfterAll, byteOf, byteAllowed, control, controllerOf, leadingToFlags, leadingTo, allMessages}
+use Rattle.translate_state.proofs.Flags.{flags-lt}
 use Rattle.translate.proofs.Always.{Formed, new-formed, on-set, after-formed}
 
 -- a fact of each number below n
@@ -37,10 +37,10 @@ at {P} (all and p) k h =
 -- a control change, by the fields of its word
 pub after-control : (r : Midi1ToMidi2Group) → Formed r → (w g c n v : ℕ) → wordForm w ≡ true → field 24 4 w ≡ g → channelOf w ≡ c → opcodeOf w ≡ 0xB → firstOf w ≡ n → secondOf w ≡ v
     → recordAfter r w ≡ withState r c (controlChanged g c (stateOn r c) n v .state)
-unfolding messageStep
+unfolding messageTranslated
 after-control r f w g c n v form eg ec eo en ev =
     rw (f .allowed, form)
-    (λ i. withState r (ec i) (messageStep (eg i) (ec i) (stateOn r (ec i)) (eo i) (en i) (ev i) .state))
+    (λ i. withState r (ec i) (messageTranslated (eg i) (ec i) (stateOn r (ec i)) (eo i) (en i) (ev i) .state))
 
 module _ (c : ℕ) (h : c < 16) where
   -- the state that a control change leaves
@@ -80,24 +80,24 @@ module _ (c : ℕ) (h : c < 16) where
   -- messages that give byte k the value x
   abbrev Leads : ℕ → ℕ → List ℕ → Type 0
   Leads k x ws =
-      (allMessages ws ≡ true) × (byteOf (stateOn (afterCalls newRecord (map translate-words ws)) c) k ≡ x)
+      (allMessages ws ≡ true) × (byteOf (stateOn (translatorAfterAll newRecord (map translate-words ws)) c) k ≡ x)
 
   by-none : (k : ℕ) → byteOf emptyState k ≡ 0 → Leads k 0 []
-  unfolding allMessages afterCalls
+  unfolding allMessages translatorAfterAll
   by-none k e = (refl, rw empty e)
 
   by-one : (k x n v : ℕ) → n < 128 → v < 128 → byteOf (left emptyState n v) k ≡ x → Leads k x (control c n v ∷ [])
-  unfolding allMessages afterCalls
+  unfolding allMessages translatorAfterAll
   by-one k x n v a b e = (rw (control-form n v a b), rw (one newRecord new-formed n v a b, empty) e)
 
   by-two : (x n v m u : ℕ) → n < 128 → v < 128 → m < 128 → u < 128 → left (left emptyState n v) m u .flags ≡ x → Leads 7 x (control c n v ∷ control c m u ∷ [])
-  unfolding allMessages afterCalls
+  unfolding allMessages translatorAfterAll
   by-two x n v m u a b d e g =
       (rw (control-form n v a b, control-form m u d e), rw (two newRecord new-formed n v m u a b d e, empty) g)
 
   by-three : (x n v m u : ℕ) → n < 128 → v < 128 → m < 128 → u < 128 → left (left (left emptyState n v) m u) 121 0 .flags ≡ x
       → Leads 7 x (control c n v ∷ control c m u ∷ control c 121 0 ∷ [])
-  unfolding allMessages afterCalls
+  unfolding allMessages translatorAfterAll
   by-three x n v m u a b d e g = (
     rw (control-form n v a b, control-form m u d e, control-form 121 0 (omega arith) (omega arith)),
     rw (then-121 newRecord new-formed n v m u a b d e, empty) g,
@@ -110,7 +110,7 @@ module _ (c : ℕ) (h : c < 16) where
   FlagsLead x = flagsAllowed x ≡ true → Leads 7 x (leadingToFlags c x)
 
   flags-lead : Each FlagsLead 16
-  unfolding leadingToFlags controlChanged selected pendingSent pendingWords enteredAfter mcmSelected controllersReset
+  unfolding leadingToFlags controlChanged selected pendingSent pendingWords enteredAfter mcmSelected entryHeld controllersReset
   flags-lead =
       nothing
       and (λ a. by-none 7 refl)
@@ -132,21 +132,21 @@ module _ (c : ℕ) (h : c < 16) where
 
   -- a held byte: no message, or one of its controller
   held-lead : (k : ℕ) → controllerOf k < 128 → byteOf emptyState k ≡ 0
-      → ((v : ℕ) → byteOf (left emptyState (controllerOf k) v) k ≡ v + 1)
+      → ((v : ℕ) → byteOf (left emptyState (controllerOf k) v) k ≡ v % 2 ^ 7 + 1)
       → (x : ℕ) → x ≤ 128 → Leads k x (if eqb x 0 then [] else control c (controllerOf k) (x - 1) ∷ [])
   held-lead k n e f x l =
       by-test (eqb x 0)
       (λ z. rw (z, eqb-true x 0 z) (by-none k e))
       (λ z.
       let p : x ≡ 0 → ⊥ = eqb-false x 0 z in
-      let q : x - 1 + 1 ≡ x = omega arith in
+      let q : (x - 1) % 2 ^ 7 + 1 ≡ x = omega arith in
       rw z (by-one k x (controllerOf k) (x - 1) n (omega arith) (f (x - 1) ∙ q)))
 
   abbrev ByteLead : ℕ → Type 0
   ByteLead k = (x : ℕ) → byteAllowed k x ≡ true → Leads k x (leadingTo c k x)
 
   bytes-lead : Each ByteLead 8
-  unfolding leadingTo controlChanged selected pendingSent pendingWords enteredAfter mcmSelected
+  unfolding leadingTo controlChanged selected pendingSent pendingWords enteredAfter mcmSelected entryHeld
   bytes-lead =
       nothing
       and (λ x a. held-lead 0 (omega arith) refl (λ v. refl) x (leb-true x 128 a))

@@ -1,4 +1,3 @@
--- Definitions that the contracts cite: what is carried from one message to the next, and the words of a message.
-pub mod Carried
+-- Definitions that the contracts cite: the words of a message, and lists of calls.
 pub mod Translate
 pub mod Lists

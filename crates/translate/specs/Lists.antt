@@ -7,9 +7,9 @@ use lib.Dec.{eqb}
 use Rattle.ump.specs.Choice.{if_then_else_}
 use Rattle.ump.specs.Outcome.{Outcome, given, declined, outOfRange}
 use Rattle.ump.specs.Word.{wordForm, wordOf}
-use Rattle.translate.specs.declared.ChannelState.{ChannelState}
-use Rattle.translate.specs.declared.Midi1ToMidi2Group.{Midi1ToMidi2Group}
-use Rattle.translate.specs.Carried.{newRecord, stateOn, heldAllowed, flagsAllowed}
+use Rattle.translate_state.specs.declared.ChannelState.{ChannelState}
+use Rattle.translate_state.specs.declared.Midi1ToMidi2Group.{Midi1ToMidi2Group}
+use Rattle.translate_state.specs.State.{newRecord, stateOn, heldAllowed, flagsAllowed}
 use Rattle.translate.specs.Translate.{translationOf, recordAfter, flushReply, flushedRecord}
 
 -- the calls on a record: a message's word, a flush of a group and a channel, a reset
@@ -25,29 +25,29 @@ answerTo r (flush g c) = flushReply r g c
 answerTo r reset = given []
 
 -- the record after a call
-abbrev pub afterCall : Midi1ToMidi2Group → TranslatorCall → Midi1ToMidi2Group
-afterCall r (translate-words w) = recordAfter r w
-afterCall r (flush g c) = flushedRecord r g c
-afterCall r reset = newRecord
+abbrev pub translatorAfter : Midi1ToMidi2Group → TranslatorCall → Midi1ToMidi2Group
+translatorAfter r (translate-words w) = recordAfter r w
+translatorAfter r (flush g c) = flushedRecord r g c
+translatorAfter r reset = newRecord
 
 -- a call gives this answer and leaves this record: what the contract of each call says
-abbrev pub CallGives : Midi1ToMidi2Group → TranslatorCall → Outcome (List ℕ) → Midi1ToMidi2Group → Type 0
-CallGives r call answer left = (answer ≡ answerTo r call) × (left ≡ afterCall r call)
+abbrev pub TranslatorGives : Midi1ToMidi2Group → TranslatorCall → Outcome (List ℕ) → Midi1ToMidi2Group → Type 0
+TranslatorGives r call answer left = (answer ≡ answerTo r call) × (left ≡ translatorAfter r call)
 
 -- the record after a list of calls
-unfoldable pub afterCalls : Midi1ToMidi2Group → List TranslatorCall → Midi1ToMidi2Group
-afterCalls r [] = r
-afterCalls r (call ∷ calls) = afterCalls (afterCall r call) calls
+unfoldable pub translatorAfterAll : Midi1ToMidi2Group → List TranslatorCall → Midi1ToMidi2Group
+translatorAfterAll r [] = r
+translatorAfterAll r (call ∷ calls) = translatorAfterAll (translatorAfter r call) calls
 
 -- the words that an answer gives
-abbrev pub wordsIn : Outcome (List ℕ) → List ℕ
-wordsIn (given words) = words
-wordsIn (declined n v) = []
+abbrev pub wordsAnswered : Outcome (List ℕ) → List ℕ
+wordsAnswered (given words) = words
+wordsAnswered (declined n v) = []
 
 -- the words of a list of messages, from a record
 unfoldable pub wordsFrom : Midi1ToMidi2Group → List ℕ → List ℕ
 wordsFrom r [] = []
-wordsFrom r (w ∷ ws) = wordsIn (translationOf r w) ++ wordsFrom (recordAfter r w) ws
+wordsFrom r (w ∷ ws) = wordsAnswered (translationOf r w) ++ wordsFrom (recordAfter r w) ws
 
 -- the words of a list of messages, from a new record
 abbrev pub wordsOf : List ℕ → List ℕ
@@ -55,7 +55,7 @@ wordsOf ws = wordsFrom newRecord ws
 
 -- the first message gives its words, and the rest theirs from the record that it leaves: what the contract of `translate_words` says
 abbrev pub ListContinues : Midi1ToMidi2Group → ℕ → Outcome (List ℕ) → Midi1ToMidi2Group → Type 0
-ListContinues r w answer left = (ws : List ℕ) → wordsFrom r (w ∷ ws) ≡ wordsIn answer ++ wordsFrom left ws
+ListContinues r w answer left = (ws : List ℕ) → wordsFrom r (w ∷ ws) ≡ wordsAnswered answer ++ wordsFrom left ws
 
 -- a byte of a channel, by its place among the eight
 abbrev pub byteOf : ChannelState → ℕ → ℕ
@@ -115,17 +115,17 @@ isGiven (declined n v) = false
 pub record ExactlyAccepted (new : Midi1ToMidi2Group) : Type 0 where
   -- whatever calls it has had, each byte of each channel has a value that is accepted
   pub kept : (calls : List TranslatorCall) (c k : ℕ) → c < 16 → k < 8
-      → byteAllowed k (byteOf (stateOn (afterCalls new calls) c) k) ≡ true
+      → byteAllowed k (byteOf (stateOn (translatorAfterAll new calls) c) k) ≡ true
   -- so that no call is declined but one whose word is no message
   pub answered : (calls : List TranslatorCall) (call : TranslatorCall) → ofMessage call ≡ true
-      → isGiven (answerTo (afterCalls new calls) call) ≡ true
+      → isGiven (answerTo (translatorAfterAll new calls) call) ≡ true
   -- and each value that is accepted is given by some list of messages
   pub reached : (c k x : ℕ) → c < 16 → k < 8 → byteAllowed k x ≡ true
-      → (allMessages (leadingTo c k x) ≡ true) × (byteOf (stateOn (afterCalls new (map translate-words (leadingTo c k x))) c) k ≡ x)
+      → (allMessages (leadingTo c k x) ≡ true) × (byteOf (stateOn (translatorAfterAll new (map translate-words (leadingTo c k x))) c) k ≡ x)
 
 -- a record with another value in some byte, of whichever channel, is out of range for every message and every flush, and stays
 pub record OthersRefused (r : Midi1ToMidi2Group) : Type 0 where
   pub message-refused : (c k w : ℕ) → c < 16 → k < 8 → byteAllowed k (byteOf (stateOn r c) k) ≡ false
-      → CallGives r (translate-words w) outOfRange r
+      → TranslatorGives r (translate-words w) outOfRange r
   pub flush-refused : (c k g d : ℕ) → c < 16 → k < 8 → byteAllowed k (byteOf (stateOn r c) k) ≡ false
-      → CallGives r (flush g d) outOfRange r
+      → TranslatorGives r (flush g d) outOfRange r

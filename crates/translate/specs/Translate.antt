@@ -1,6 +1,5 @@
 -- From MIDI 1.0 to MIDI 2.0 channel voice messages (M2-104 D.3; M2-115; document 02, 2026-02).
-use Prim.Native.Nat.{ℕ, _+_, _-_, _*_, _%_, _^_}
-use mathlib.Core.Bool.{Bool, true, false}
+use Prim.Native.Nat.{ℕ, _+_, _*_, _^_}
 use mathlib.Core.List.{List, [], _∷_}
 use lib.Dec.{ltb, eqb}
 use lib.ListN.{set}
@@ -10,12 +9,12 @@ use Rattle.ump.specs.Field.{field}
 use Rattle.ump.specs.Packet.{packetValue}
 use Rattle.ump.specs.Word.{opcodeOf, channelOf, firstOf, secondOf, wordForm}
 use Rattle.scale.specs.Scale.{widened, zeroExtended}
-use Rattle.translate.specs.declared.ChannelState.{ChannelState}
-use Rattle.translate.specs.declared.Midi1ToMidi2Group.{Midi1ToMidi2Group}
+use Rattle.translate_state.specs.declared.ChannelState.{ChannelState}
+use Rattle.translate_state.specs.declared.Midi1ToMidi2Group.{Midi1ToMidi2Group}
 use Rattle.translate.specs.declared.Translation.{Translation}
 use Rattle.translate.specs.declared.Translation.the-variants.{Words, Nothing, OutOfRange}
 use Rattle.translate.specs.declared.Stepped.{Stepped}
-use Rattle.translate.specs.Carried.{held, valueIn, kindIn, pendingIn, nullAfterIn, withKind, withPending, withoutPending, withNullAfter, withRpn, withNrpn, withBank, withEntry, nulled, stateOn, recordAllowed}
+use Rattle.translate_state.specs.State.{held, valueIn, kindIn, pendingIn, nullAfterIn, stateOn, recordAllowed, pendingSent, selected, mcmSelected, entryHeld, completed, controllersReset, bankMsbHeld, bankLsbHeld, bankSent}
 
 -- what a call answers, by the papers' numbers: two words, no words, or out of range
 abbrev pub translationRead : Translation → Outcome (List ℕ)
@@ -65,74 +64,40 @@ pendingWords g c s =
     (if eqb (s .«data_msb») 0 then Nothing else controller g c s (joinedValue (valueIn (s .«data_msb»)) 0))
     else Nothing
 
--- and the channel after it: nothing pending, and a null selection where a reset was noted (RP-015)
-unfoldable pub pendingSent : ChannelState → ChannelState
-pendingSent s =
-    if pendingIn (s .flags) then
-    (if nullAfterIn (s .flags) then nulled s (withoutPending (s .flags)) else withEntry s (s .«data_msb») (withoutPending (s .flags)))
-    else s
-
-abbrev pub stepped : ChannelState → Translation → Stepped
-stepped s t = record { state = s; reply = t }
-
--- 98 to 101: a new parameter ends the last one. What is pending is sent; then the number is stored, its kind selected, and no Data Entry MSB is held.
-abbrev pub numberStored : ChannelState → ℕ → ℕ → ChannelState
-numberStored s n v =
-    if eqb n 101 then withRpn s (held v) (s .«rpn_lsb») else
-    if eqb n 100 then withRpn s (s .«rpn_msb») (held v) else
-    if eqb n 99 then withNrpn s (held v) (s .«nrpn_lsb») else
-    withNrpn s (s .«nrpn_msb») (held v)
-
-abbrev pub kindOfNumber : ℕ → ℕ
-kindOfNumber n = if ltb n 100 then 2 else 1
-
-unfoldable pub selected : ChannelState → ℕ → ℕ → ChannelState
-selected s n v = withEntry (numberStored s n v) 0 (withKind (s .flags) (kindOfNumber n))
-
--- the MPE Configuration Message, RPN 0/6, is selected (M1-100 2.2.1)
-unfoldable pub mcmSelected : ChannelState → Bool
-mcmSelected s =
-    if eqb (kindIn (s .flags)) 1 then (if eqb (s .«rpn_msb») (held 0) then eqb (s .«rpn_lsb») (held 6) else false) else false
+abbrev pub channelStep : ChannelState → Translation → Stepped
+channelStep s t = record { state = s; reply = t }
 
 -- 6: what is pending is sent and the value is held, pending. Where nothing was sent and RPN 0/6 is selected, which has no LSB, it is sent at once.
 unfoldable pub enteredAfter : Translation → ℕ → ℕ → ChannelState → Stepped
-enteredAfter (Words a b) g c s = stepped s (Words a b)
-enteredAfter Nothing g c s = if mcmSelected s then stepped (pendingSent s) (pendingWords g c s) else stepped s Nothing
-enteredAfter OutOfRange g c s = stepped s OutOfRange
-
-abbrev pub entered : ChannelState → ℕ → ChannelState
-entered s v = withEntry s (held v) (withPending (s .flags))
+enteredAfter (Words a b) g c s = channelStep s (Words a b)
+enteredAfter Nothing g c s = if mcmSelected s then channelStep (pendingSent s) (pendingWords g c s) else channelStep s Nothing
+enteredAfter OutOfRange g c s = channelStep s OutOfRange
 
 abbrev pub msbEntered : ℕ → ℕ → ChannelState → ℕ → Stepped
-msbEntered g c s v = enteredAfter (pendingWords g c s) g c (entered (pendingSent s) v)
+msbEntered g c s v = enteredAfter (pendingWords g c s) g c (entryHeld (pendingSent s) v)
 
 -- 38: the held value is sent with this LSB; where a reset was noted it is ignored, and what is pending is sent (RP-015)
 unfoldable pub lsbEntered : ℕ → ℕ → ChannelState → ℕ → Stepped
 lsbEntered g c s v =
-    if nullAfterIn (s .flags) then stepped (pendingSent s) (pendingWords g c s) else
-    if eqb (s .«data_msb») 0 then stepped s Nothing else
-    stepped (withEntry s (s .«data_msb») (withoutPending (s .flags))) (controller g c s (joinedValue (valueIn (s .«data_msb»)) v))
-
--- 121: both numbers become null, or, where a value is pending, once it is sent (RP-015)
-unfoldable pub controllersReset : ChannelState → ChannelState
-controllersReset s =
-    if pendingIn (s .flags) then withEntry s (s .«data_msb») (withNullAfter (s .flags)) else nulled s (s .flags)
+    if nullAfterIn (s .flags) then channelStep (pendingSent s) (pendingWords g c s) else
+    if eqb (s .«data_msb») 0 then channelStep s Nothing else
+    channelStep (completed s) (controller g c s (joinedValue (valueIn (s .«data_msb»)) v))
 
 -- a message that passes on, its value of 7 bits widened to 32
 abbrev pub passedOn : ℕ → ℕ → ℕ → ℕ → ℕ → Translation
 passedOn g c opcode index value = Words (firstWord g opcode c index 0) (widened 7 32 value)
 
--- a control change (D.3.3, D.3.4): 0 and 32 are held for the next program change, and an MSB sets the held LSB to 0
+-- a control change (D.3.3, D.3.4); 98 to 101 end the last parameter, so that what is pending is sent before the number is stored
 unfoldable pub controlChanged : ℕ → ℕ → ChannelState → ℕ → ℕ → Stepped
 controlChanged g c s n v =
-    if eqb n 0 then stepped (withBank s (held v) (held 0)) Nothing else
+    if eqb n 0 then channelStep (bankMsbHeld s v) Nothing else
     if eqb n 6 then msbEntered g c s v else
-    if eqb n 32 then stepped (withBank s (s .«bank_msb») (held v)) Nothing else
+    if eqb n 32 then channelStep (bankLsbHeld s v) Nothing else
     if eqb n 38 then lsbEntered g c s v else
-    if eqb n 121 then stepped (controllersReset s) (passedOn g c 0xB n v) else
-    if ltb n 98 then stepped s (passedOn g c 0xB n v) else
-    if ltb 101 n then stepped s (passedOn g c 0xB n v) else
-    stepped (selected (pendingSent s) n v) (pendingWords g c s)
+    if eqb n 121 then channelStep (controllersReset s) (passedOn g c 0xB n v) else
+    if ltb n 98 then channelStep s (passedOn g c 0xB n v) else
+    if ltb 101 n then channelStep s (passedOn g c 0xB n v) else
+    channelStep (selected (pendingSent s) n v) (pendingWords g c s)
 
 -- a program change carries the held bank, with Bank Valid, and the bank is held no longer (D.3.4)
 abbrev pub bankWords : ℕ → ℕ → ChannelState → ℕ → Translation
@@ -150,16 +115,16 @@ abbrev pub noteWords : ℕ → ℕ → ℕ → ℕ → ℕ → Translation
 noteWords g c opcode note velocity = Words (firstWord g opcode c note 0) (velocity * 2 ^ 16)
 
 -- a message of group g and channel c, by its opcode and data bytes; Note On with velocity 0 is Note Off with velocity 0x8000 (D.3.1)
-unfoldable pub messageStep : ℕ → ℕ → ChannelState → ℕ → ℕ → ℕ → Stepped
-messageStep g c s opcode a b =
-    if eqb opcode 0x8 then stepped s (noteWords g c 0x8 a (widened 7 16 b)) else
+unfoldable pub messageTranslated : ℕ → ℕ → ChannelState → ℕ → ℕ → ℕ → Stepped
+messageTranslated g c s opcode a b =
+    if eqb opcode 0x8 then channelStep s (noteWords g c 0x8 a (widened 7 16 b)) else
     if eqb opcode 0x9 then
-    (if eqb b 0 then stepped s (noteWords g c 0x8 a 0x8000) else stepped s (noteWords g c 0x9 a (widened 7 16 b))) else
-    if eqb opcode 0xA then stepped s (passedOn g c 0xA a b) else
+    (if eqb b 0 then channelStep s (noteWords g c 0x8 a 0x8000) else channelStep s (noteWords g c 0x9 a (widened 7 16 b))) else
+    if eqb opcode 0xA then channelStep s (passedOn g c 0xA a b) else
     if eqb opcode 0xB then controlChanged g c s a b else
-    if eqb opcode 0xC then stepped (withBank s 0 0) (programWords g c s a) else
-    if eqb opcode 0xD then stepped s (passedOn g c 0xD 0 a) else
-    stepped s (Words (firstWord g 0xE c 0 0) (widened 14 32 (joinedValue b a)))
+    if eqb opcode 0xC then channelStep (bankSent s) (programWords g c s a) else
+    if eqb opcode 0xD then channelStep s (passedOn g c 0xD 0 a) else
+    channelStep s (Words (firstWord g 0xE c 0 0) (widened 14 32 (joinedValue b a)))
 
 -- the record with another state of a channel
 abbrev pub withState : Midi1ToMidi2Group → ℕ → ChannelState → Midi1ToMidi2Group
@@ -168,7 +133,7 @@ withState r c s = record { state = set (r .state) c s }
 -- a message on its own channel's state
 abbrev pub wordStep : Midi1ToMidi2Group → ℕ → Stepped
 wordStep r w =
-    messageStep (field 24 4 w) (channelOf w) (stateOn r (channelOf w)) (opcodeOf w) (firstOf w) (secondOf w)
+    messageTranslated (field 24 4 w) (channelOf w) (stateOn r (channelOf w)) (opcodeOf w) (firstOf w) (secondOf w)
 
 -- what `translate_words` answers and leaves: out of range for a record or a word that is not allowed, and then the record stays
 abbrev pub translationOf : Midi1ToMidi2Group → ℕ → Outcome (List ℕ)

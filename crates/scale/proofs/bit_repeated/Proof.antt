@@ -9,7 +9,7 @@ use lib.Pow.{pow-pos, pow-mono}
 use native.Mathlib.Nat.{mod-lt}
 use borrow.Author.Needs.{needs}
 use Rattle.scale.specs.Scale.{repeated}
-use Rattle.scale.proofs.Range.{one-shifted, masked, shifted}
+use Rattle.scale.proofs.Range.{shifted}
 use Rattle.scale.proofs.Repeat.{Left, starts, turn, within, falls, ended, repeated-lt}
 use Rattle.scale.proofs.bit_repeated.Statement.{statement}
 use Rattle.scale.proofs.bit_repeated.Tie as tie
@@ -33,36 +33,27 @@ cast-result c = search needs
 shl-result : tie.Need-shl-result Inv-loop μ-loop
 shl-result c = search needs
 
-cast-first-repeat : tie.Need-cast-first-repeat Inv-loop μ-loop
-cast-first-repeat c = search needs
-
-shl-first-repeat : tie.Need-shl-first-repeat Inv-loop μ-loop
-shl-first-repeat c = search needs
-
-sub-first-repeat : tie.Need-sub-first-repeat Inv-loop μ-loop
-sub-first-repeat c =
-    let n = c .args .src-bits - 1 in
-    omega (arith, one-shifted n 32 (omega arith), pow-pos n)
+low-bits-requires : tie.Need-low-bits-requires Inv-loop μ-loop
+low-bits-requires c κs = search needs
 
 first-repeat-requires : tie.Need-first-repeat-requires Inv-loop μ-loop
 first-repeat-requires c κs =
-    let n = c .args .src-bits - 1 in
-    let v = c .args .value in
-    (rw (masked v n (omega arith)) (mod-lt v (pow-pos n)), omega arith, omega arith)
+    let v = c .before .args .value in
+    let n = c .before .args .src-bits - 1 in
+    (omega (arith, c .low-bits .ensures, mod-lt v (pow-pos n)), omega arith, omega arith)
 
 loop-holds : tie.Need-loop-holds Inv-loop μ-loop
 loop-holds c =
-    let a = c .before .args in
+    let a = c .before .before .args in
     let k = a .dst-bits - a .src-bits in
     let n = a .src-bits - 1 in
-    let x = repeated (a .src-bits) (a .value) k in
-    let e = c .first-repeat .ensures ∙ ap (λ (y : ℕ). y * 2 ^ k / 2 ^ n) (masked (a .value) n (omega arith)) in
+    let e = c .first-repeat .ensures ∙ ap (λ (y : ℕ). y * 2 ^ k / 2 ^ n) (c .before .low-bits .ensures) in
     rw (shifted (a .src-bits) (a .dst-bits) (a .value) (omega arith) (omega arith) (omega arith), e)
     (starts (a .src-bits) (a .value) k (omega arith))
 
 add-result : tie.Need-add-result Inv-loop μ-loop
 add-result c =
-    let a = c .before .before .before .args in
+    let a = c .before .before .before .before .args in
     let h : a .src-bits + (a .dst-bits - a .src-bits) ≤ 32 = omega arith in
     record {
       fits = lt-of-le-of-lt (within (c .before .loop .inv)) (lt-of-lt-of-le (repeated-lt (a .src-bits) (a .value) (a .dst-bits - a .src-bits) (omega arith)) (pow-mono h));
@@ -75,7 +66,7 @@ shr-repeat : tie.Need-shr-repeat Inv-loop μ-loop
 shr-repeat c = search needs
 
 loop-less : tie.Need-loop-less Inv-loop μ-loop
-loop-less c = falls (c .before .before .before .args .src-bits - 1) (c .before .loop .repeat) (omega arith) (omega arith)
+loop-less c = falls _ (c .before .loop .repeat) (omega arith) (omega arith)
 
 loop-again : tie.Need-loop-again Inv-loop μ-loop
 loop-again c = turn (c .before .loop .inv)
@@ -93,9 +84,7 @@ bit-repeated-spec =
     sub-repeat-bits
     cast-result
     shl-result
-    cast-first-repeat
-    shl-first-repeat
-    sub-first-repeat
+    low-bits-requires
     first-repeat-requires
     loop-holds
     add-result

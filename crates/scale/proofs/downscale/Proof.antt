@@ -1,4 +1,4 @@
--- `scale::downscale` meets its contract.
+-- `scale::downscale` meets its contract: what it answers, and the claims that follow from that.
 -- Assumes nothing.
 use borrow.Author.Needs.{needs}
 use native.Mathlib.Omega.{arith}

@@ -1,4 +1,4 @@
--- `scale::upscale` meets its contract.
+-- `scale::upscale` meets its contract: what it answers, and the claims that follow from that.
 -- Assumes nothing.
 use borrow.Author.Needs.{needs}
 use mathlib.Core.Path.{sym, ap, _∙_}

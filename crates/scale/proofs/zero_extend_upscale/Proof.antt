@@ -1,4 +1,4 @@
--- `scale::zero_extend_upscale` meets its contract.
+-- `scale::zero_extend_upscale` meets its contract: what it answers, and the claims that follow from that.
 -- Assumes nothing.
 use borrow.Author.Needs.{needs}
 use native.Mathlib.Omega.{arith}

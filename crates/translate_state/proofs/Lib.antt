@@ -1,0 +1,4 @@
+-- Laws that proofs of this crate and of those above it cite.
+pub mod Allowed
+pub mod Flags
+pub mod Kept

@@ -1,0 +1,18 @@
+-- `translate_state::without_null_after` meets its contract.
+-- Assumes nothing.
+use borrow.Author.Needs.{needs}
+use Rattle.translate_state.proofs.without_null_after.Statement.{statement}
+use Rattle.translate_state.proofs.without_null_after.Tie as tie
+use Rattle.ump.proofs.Auto.{auto}
+
+sub-result : tie.Need-sub-result
+sub-result c = search needs
+
+returns : tie.Need-returns
+returns c = search auto
+
+returns-2 : tie.Need-returns-2
+returns-2 c = search auto
+
+pub without-null-after-spec : {M : Type 1} → statement M
+without-null-after-spec = tie.close (tie.spec sub-result returns returns-2)
