@@ -15,6 +15,7 @@ mod run;
 mod sender_items;
 mod states;
 mod tokens;
+mod translation_items;
 mod word_items;
 
 use libc::STDERR_FILENO;

@@ -9,11 +9,13 @@ use crate::pitch_items;
 use crate::receiver_items;
 use crate::restatement_items;
 use crate::sender_items;
+use crate::translation_items;
 use crate::word_items;
 use mpe_allocator::MpeNoteAllocator;
 use mpe_receiver::MpeReceiver;
 use parameters::ParameterState;
 use receiving_end::end::End;
+use translate_state::Midi1ToMidi2Group;
 
 // Each is new at the start.
 pub(crate) struct States {
@@ -21,6 +23,7 @@ pub(crate) struct States {
     pub(crate) parameters: ParameterState,
     pub(crate) receiver: MpeReceiver,
     pub(crate) allocator: MpeNoteAllocator,
+    pub(crate) translator: Midi1ToMidi2Group,
 }
 
 // The states after an item, and the answer.
@@ -54,6 +57,7 @@ impl States {
             parameters: ParameterState::new(),
             receiver: MpeReceiver::new(),
             allocator: MpeNoteAllocator::new(),
+            translator: Midi1ToMidi2Group::new(),
         }
     }
 
@@ -109,6 +113,17 @@ impl States {
         Answered { states, line }
     }
 
+    // Makes the call of an item on the translator.
+    fn answer_translator(self, item: Item) -> Answered {
+        let translator = self.translator;
+        let answered = translation_items::answer(translator, item);
+        let next = answered.translator;
+        let line = answered.line;
+        let mut states = self;
+        states.translator = next;
+        Answered { states, line }
+    }
+
     // Gives the end a restatement.
     fn answer_restated(self, bytes: &[u8; 80]) -> Answered {
         let end = self.end;
@@ -147,6 +162,9 @@ impl States {
         if bytes[0] < 0x70 {
             return self.answer_item(Item::of(bytes));
         }
-        self.answer_restated(bytes)
+        if bytes[0] < 0x80 {
+            return self.answer_restated(bytes);
+        }
+        self.answer_translator(Item::of(bytes))
     }
 }

@@ -2,6 +2,7 @@
 
 use crate::calls::range;
 use crate::items::Items;
+use crate::midi2;
 use crate::settings::{Channel, Settings, Zone};
 use crate::values::is_legal;
 
@@ -47,6 +48,10 @@ pub fn trace(name: &str) -> Option<()> {
         "sensitivities" => sensitivities(&mut items),
         "settings" => settings(&mut items),
         "pitch" => pitch(&mut items),
+        "scaling" => midi2::scaling(&mut items),
+        "narrowing" => midi2::narrowing(&mut items),
+        "translations" => midi2::translations(&mut items),
+        "records" => midi2::records_table(&mut items),
         _ => return None,
     }
     Some(())

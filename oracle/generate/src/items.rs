@@ -25,8 +25,15 @@ impl Printer {
     }
 
     pub fn item(&mut self, item: &[u8]) {
-        let pairs: Vec<String> = item.iter().map(|byte| format!("{byte:02X}")).collect();
-        self.line(&pairs.join(" "));
+        let digit = |value: u8| char::from(b"0123456789ABCDEF"[usize::from(value)]);
+        let mut line = String::with_capacity(3 * item.len());
+        for (at, byte) in item.iter().enumerate() {
+            if at > 0 {
+                line.push(' ');
+            }
+            line.extend([digit(byte >> 4), digit(byte & 0xF)]);
+        }
+        self.line(&line);
     }
 
     pub fn items(&mut self, items: &[Item]) {

@@ -11,11 +11,14 @@ mod calls;
 mod end;
 mod exhaustive;
 mod items;
+mod midi2;
 mod random;
 mod receiver;
 mod restatement;
+mod scaling;
 mod sender;
 mod settings;
+mod translation;
 mod triples;
 mod ump;
 mod values;
@@ -52,7 +55,7 @@ impl Generator {
 type Phrase = fn(&mut Generator);
 
 /// The kinds, and how often each is chosen beside the others.
-const KINDS: [(&str, Phrase, u32); 10] = [
+const KINDS: [(&str, Phrase, u32); 12] = [
     ("end", end::phrase, 6),
     ("layout", calls::layout, 3),
     ("ump", ump::phrase, 3),
@@ -63,13 +66,17 @@ const KINDS: [(&str, Phrase, u32); 10] = [
     ("sender", sender::phrase, 4),
     ("allocator", allocator::phrase, 4),
     ("restatement", restatement::phrase, 1),
+    ("translate", translation::phrase, 6),
+    ("scale", scaling::phrase, 3),
 ];
 
 const USAGE: &str = "usage: generate SEED COUNT [KIND..]
        generate --exhaustive NAME
        generate --triples SEED COUNT
-KIND: end layout ump pitch apply parameters receiver sender allocator restatement (by default all)
-NAME: layouts packets constructors words announcements classes sensitivities settings pitch";
+KIND: end layout ump pitch apply parameters receiver sender allocator restatement translate scale
+      (by default all)
+NAME: layouts packets constructors words announcements classes sensitivities settings pitch
+      scaling narrowing translations records";
 
 /// The kinds named, each as often as it is to be chosen; none for a name that is no kind.
 fn chosen(names: &[String]) -> Option<Vec<Phrase>> {

@@ -60,6 +60,14 @@ pub fn words(messages: &[Midi1ChannelVoiceMessage]) -> Answer {
     Ok(numbers(messages.iter().map(|message| message.into_bits())))
 }
 
+/// What a translation gives: two words, or nothing.
+pub fn translation(words: Option<[u32; 2]>) -> String {
+    match words {
+        Some(words) => numbers(words),
+        None => "-".into(),
+    }
+}
+
 /// The fields of a message by upstream's own cuts: message type, group, opcode, channel, and two
 /// data bytes, the second 0 where the message has one.
 pub fn fields(message: &Midi1ChannelVoiceMessage) -> String {

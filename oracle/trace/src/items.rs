@@ -3,6 +3,7 @@
 use crate::answer::{self, numbers, ok, with_buffer, words, Answer, Refusal};
 use crate::arguments::Arguments;
 use crate::end::{End, Reply};
+use crate::record::Record;
 use crate::restatement::{as_words, put};
 use crate::sensitivity::{sensitivity_messages, zone_sensitivity_messages};
 use zmidi_io::mpe::{
@@ -10,6 +11,7 @@ use zmidi_io::mpe::{
 };
 use zmidi_io::parameters::{change_message, select_messages, value_messages};
 use zmidi_io::ParameterState;
+use zmidi_ump::scale;
 use zmidi_ump::{
     Channel, Group, Midi1ChannelPressure, Midi1ChannelVoiceMessage, Midi1ControlChange,
     Midi1NoteOn, Midi1PitchBend,
@@ -52,12 +54,12 @@ const KINDS: [MpeMessage; 21] = [
 /// The length of an operation's arguments, or none for an unknown operation.
 pub fn length(operation: u8) -> Option<usize> {
     Some(match operation {
-        0x00 | 0x06 | 0x34 | 0x36 | 0x39 | 0x40 | 0x43 | 0x60 | 0x64 | 0x65 => 0,
-        0x01 | 0x02 | 0x07 | 0x08 | 0x37 | 0x38 | 0x44 | 0x62 | 0x63 => 1,
-        0x03 | 0x04 | 0x05 | 0x10 | 0x15 | 0x16 | 0x42 | 0x51 => 2,
-        0x12..=0x14 | 0x52 => 3,
-        0x11 | 0x18 | 0x21 | 0x35 | 0x50 | 0x54 | 0x61 => 4,
-        0x20 => 6,
+        0x00 | 0x06 | 0x34 | 0x36 | 0x39 | 0x40 | 0x43 | 0x60 | 0x64 | 0x65 | 0x80 => 0,
+        0x01 | 0x02 | 0x07 | 0x08 | 0x37 | 0x38 | 0x44 | 0x62 | 0x63 | 0x83 => 1,
+        0x03 | 0x04 | 0x05 | 0x10 | 0x15 | 0x16 | 0x42 | 0x51 | 0x82 => 2,
+        0x12..=0x14 | 0x52 | 0x84 => 3,
+        0x11 | 0x18 | 0x21 | 0x35 | 0x50 | 0x54 | 0x61 | 0x81 => 4,
+        0x20 | 0x86..=0x89 => 6,
         0x17 | 0x55 => 7,
         0x53 => 8,
         0x30 => P + C + 2,
@@ -81,12 +83,13 @@ pub fn within_limit(operation: u8, bytes: &[u8]) -> bool {
     }
 }
 
-/// The four states that a trace works on.
+/// The five states that a trace works on.
 pub struct States {
     end: End,
     parameters: ParameterState,
     receiver: MpeReceiver,
     allocator: MpeNoteAllocator,
+    record: Record,
 }
 
 impl States {
@@ -96,6 +99,7 @@ impl States {
             parameters: ParameterState::new(),
             receiver: MpeReceiver::new(),
             allocator: MpeNoteAllocator::new(),
+            record: Record::new(),
         }
     }
 
@@ -120,6 +124,8 @@ impl States {
             0x40..=0x4F => self.receiver_item(operation, arguments),
             0x50..=0x5F => sender_item(operation, arguments),
             0x60..=0x6F => self.allocator_item(operation, arguments),
+            0x80..=0x84 => self.record_item(operation, arguments),
+            0x86..=0x89 => scale_item(operation, arguments),
             _ => unreachable!("an unknown operation has no length"),
         }
     }
@@ -194,6 +200,29 @@ impl States {
             0x63 => allocator.set_same_note(arguments.flag()),
             0x64 => allocator.reset(),
             0x65 => return Ok(allocator_reading(allocator)),
+            _ => unreachable!("an unknown operation has no length"),
+        }
+        ok()
+    }
+
+    fn record_item(&mut self, operation: u8, arguments: &mut Arguments) -> Answer {
+        let record = &mut self.record;
+        match operation {
+            0x80 => *record = Record::new(),
+            0x81 => {
+                let word = arguments.message()?.into_bits();
+                return Ok(answer::translation(record.translate(word)?));
+            }
+            0x82 => {
+                let group = arguments.group();
+                let words = record.flush(group, arguments.channel())?;
+                return Ok(answer::translation(words));
+            }
+            0x83 => return Ok(numbers(record.channel(arguments.channel()))),
+            0x84 => {
+                let (channel, field) = (arguments.channel(), arguments.byte());
+                record.set(channel, field, arguments.byte())?;
+            }
             _ => unreachable!("an unknown operation has no length"),
         }
         ok()
@@ -391,4 +420,16 @@ fn restatement_words_item(arguments: &mut Arguments) -> String {
 fn allocator_reading(allocator: &MpeNoteAllocator) -> String {
     let counts = (0..16).map(|channel| allocator.active_notes(Channel::from_bits(channel)));
     numbers(counts.chain([u8::from(allocator.same_note())]))
+}
+
+fn scale_item(operation: u8, arguments: &mut Arguments) -> Answer {
+    let scaled = match operation {
+        0x86 => scale::upscale,
+        0x87 => scale::downscale,
+        0x88 => scale::zero_extend_upscale,
+        0x89 => scale::zero_extend_downscale,
+        _ => unreachable!("an unknown operation has no length"),
+    };
+    let (value, from, to) = (arguments.four(), arguments.byte(), arguments.byte());
+    Ok(scaled(value, from, to)?.to_string())
 }

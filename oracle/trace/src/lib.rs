@@ -7,6 +7,7 @@ mod end;
 mod items;
 mod pairs;
 mod reader;
+mod record;
 mod restatement;
 mod sensitivity;
 

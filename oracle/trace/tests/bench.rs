@@ -1,21 +1,8 @@
 //! The bench examples of document 01, the cents of document 02, 2026-01, and the form of the input.
 
-/// The answers to a trace.
-fn answers(trace: &str) -> String {
-    let mut output = Vec::new();
-    trace::run(trace.as_bytes(), &mut output).expect("a text is read and written");
-    String::from_utf8(output).expect("answers are text")
-}
+mod answers;
 
-/// Holds each item to its answer line; all are of one trace.
-fn hold(items: &[(&str, &str)]) {
-    let trace: Vec<&str> = items.iter().map(|(item, _)| *item).collect();
-    let answers = answers(&trace.join("\n"));
-    for ((item, expected), answer) in items.iter().zip(answers.lines()) {
-        assert_eq!(answer, *expected, "the answer to {item}");
-    }
-    assert_eq!(answers.lines().count(), items.len());
-}
+use answers::{answers, hold};
 
 /// Items that give the end each byte.
 fn bytes(bytes: &str) -> String {

@@ -10,3 +10,13 @@ pub enum Ump {
     Midi1ChannelVoice(Midi1ChannelVoiceMessage),
     Midi2ChannelVoice(Midi2ChannelVoiceMessage),
 }
+
+impl Ump {
+    /// The words of a MIDI 2.0 message, by upstream's own `into_words`; none for another packet.
+    pub fn two_words(self) -> Option<[u32; 2]> {
+        match self {
+            Self::Midi2ChannelVoice(message) => Some(message.into_words()),
+            _ => None,
+        }
+    }
+}

@@ -1,0 +1,19 @@
+-- `midi2_text::cable::Cable::flush` meets its contract.
+-- Assumes nothing.
+use borrow.Author.Needs.{needs}
+use Rattle.midi2_text.proofs.cable.Cable.flush.Statement.{statement}
+use Rattle.midi2_text.proofs.cable.Cable.flush.Tie as tie
+use Rattle.translate.specs.Translate.{translationRead}
+use Rattle.midi2_text.proofs.Words.{flushed-more}
+
+flush-requires : tie.Need-flush-requires
+flush-requires c κs = search needs
+
+of-parts-requires : tie.Need-of-parts-requires
+of-parts-requires c κs = search needs
+
+returns : tie.Need-returns
+returns c = (cc, (cc, λ channels. flushed-more _ _ _ (translationRead (c .of-parts .result .reply)) channels (cc) (cc)))
+
+pub flush-spec : {M : Type 1} → statement M
+flush-spec = tie.close (tie.spec flush-requires of-parts-requires returns)
