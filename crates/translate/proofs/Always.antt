@@ -16,7 +16,7 @@ use Rattle.translate_state.specs.declared.ChannelState.{ChannelState}
 use Rattle.translate_state.specs.declared.Midi1ToMidi2Group.{Midi1ToMidi2Group}
 use Rattle.translate_state.specs.State.{emptyState, newRecord, stateOn, stateAllowed, allowedTo, recordAllowed}
 use Rattle.translate.specs.Translate.{withState}
-use Rattle.translate.specs.Lists.{TranslatorCall, translate-words, flush, reset, translatorAfter, translatorAfterAll}
+use Rattle.translate.specs.Lists.{TranslatorCall, translate-words, flush, translatorAfter, translatorAfterAll}
 use Rattle.translate_state.proofs.Allowed.{Allowed, parts-allowed, of-parts, each-allowed, all-allowed}
 use Rattle.translate_state.proofs.Kept.{sent-kept}
 use Rattle.translate.proofs.Kept.{step-kept}
@@ -66,7 +66,6 @@ module _ (r : Midi1ToMidi2Group) (f : Formed r) where
       of-both Formed (recordAllowed r)
       (set-formed (c % 16) _ (mod-lt c (lit< tt)) (sent-kept (stateOn r (c % 16)) (on-allowed (c % 16) (mod-lt c (lit< tt)))))
       f
-  after-formed reset = new-formed
 
 pub always-formed : (r : Midi1ToMidi2Group) → Formed r → (calls : List TranslatorCall) → Formed (translatorAfterAll r calls)
 unfolding translatorAfterAll

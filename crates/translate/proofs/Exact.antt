@@ -1,24 +1,23 @@
--- The values that a byte may have are those that are accepted, and no others: what `new` and `translate_words` promise.
+-- The values that a byte may have after calls on a new record are those that are accepted, and a list of messages goes on from the record that is left.
 -- Assumes nothing.
-use mathlib.Core.Path.{_≡_, refl, sym, _∙_}
-use mathlib.Core.Bool.{true, false, true≢false}
+use mathlib.Core.Path.{_≡_, refl, sym}
+use mathlib.Core.Bool.{true}
 use mathlib.Core.List.{List, _++_}
-use Prim.Native.Nat.{ℕ, _%_, _<_}
-use borrow.Author.Tests.{le-leb}
+use Prim.Native.Nat.{ℕ, _%_}
 use lib.Dec.{ltb, eqb}
 use Rattle.ump.specs.Outcome.{Outcome}
-use Rattle.ump.proofs.Cases.{by-test, of-both}
+use Rattle.ump.proofs.Cases.{of-both}
 use Rattle.translate_state.specs.declared.ChannelState.{ChannelState}
 use Rattle.translate_state.specs.declared.Midi1ToMidi2Group.{Midi1ToMidi2Group}
 use Rattle.translate.specs.declared.Translation.{Translation}
 use Rattle.translate.specs.declared.Translation.the-variants.{Words, Nothing, OutOfRange}
 use Rattle.translate.specs.declared.Stepped.{Stepped}
-use Rattle.translate_state.specs.State.{held, kindIn, pendingIn, nullAfterIn, newRecord, stateOn, stateAllowed, recordAllowed, pendingSent, mcmSelected, entryHeld}
+use Rattle.translate_state.specs.State.{held, kindIn, pendingIn, nullAfterIn, newRecord, stateOn, pendingSent, mcmSelected, entryHeld}
 use Rattle.translate.specs.Translate.{translationRead, translationOf, recordAfter, controllerNumbered, controller, pendingWords, enteredAfter, lsbEntered, controlChanged, programWords, messageTranslated}
-use Rattle.translate.specs.Lists.{TranslatorCall, translate-words, flush, reset, answerTo, translatorAfterAll, wordsAnswered, wordsFrom, ListContinues, byteOf, byteAllowed, ofMessage, isGiven, ExactlyAccepted, OthersRefused}
-use Rattle.translate_state.proofs.Allowed.{Allowed, parts-allowed, one-refused}
+use Rattle.translate.specs.Lists.{TranslatorCall, translate-words, flush, answerTo, translatorAfterAll, wordsAnswered, wordsFrom, ListContinues, ofMessage, isGiven, ExactlyAccepted}
 use Rattle.translate.proofs.Always.{Formed, new-formed, on-allowed, always-formed}
-use Rattle.translate.proofs.Reached.{Each, nothing, _and_, at, leads}
+use Rattle.translate.proofs.Reached.{at, leads}
+use Rattle.translate.proofs.Refused.{bytes-allowed}
 
 -- words, or none, and no refusal
 abbrev Answers : Translation → Type 0
@@ -83,24 +82,10 @@ module _ (g c : ℕ) where
       (of-both Answered (eqb o 0xC) (program-answers s a)
       (of-both Answered (eqb o 0xD) refl refl)))))
 
--- each byte of a channel that is allowed
-bytes-allowed : (s : ChannelState) → Allowed s → Each (λ k. byteAllowed k (byteOf s k) ≡ true) 8
-bytes-allowed s a =
-    nothing
-    and le-leb _ _ (a .rpn-msb)
-    and le-leb _ _ (a .rpn-lsb)
-    and le-leb _ _ (a .nrpn-msb)
-    and le-leb _ _ (a .nrpn-lsb)
-    and le-leb _ _ (a .data-msb)
-    and le-leb _ _ (a .bank-msb)
-    and le-leb _ _ (a .bank-lsb)
-    and a .flags-of
-
 -- a call on a record that is allowed
 answered : (r : Midi1ToMidi2Group) → Formed r → (call : TranslatorCall) → ofMessage call ≡ true → isGiven (answerTo r call) ≡ true
 answered r f (translate-words w) m = rw (f .allowed, m) (step-answered _ _ _ _ _ _)
 answered r f (flush g c) m = rw (f .allowed) (pending-answers (g % 16) (c % 16) (stateOn r (c % 16)))
-answered r f reset m = refl
 
 pub exactly-accepted : ExactlyAccepted newRecord
 exactly-accepted =
@@ -111,26 +96,6 @@ exactly-accepted =
           at (bytes-allowed (stateOn (translatorAfterAll newRecord calls) c) (on-allowed (translatorAfterAll newRecord calls) f c h)) k l;
       answered = λ calls call m. answered (translatorAfterAll newRecord calls) (always-formed newRecord new-formed calls) call m;
       reached = λ c k x h l a. leads c h k x l a;
-    }
-
--- a byte that is not accepted
-state-refused : (s : ChannelState) (k : ℕ) → k < 8 → byteAllowed k (byteOf s k) ≡ false → stateAllowed s ≡ false
-state-refused s k l n =
-    by-test (stateAllowed s)
-    (λ e. absurd (true≢false (sym (at (bytes-allowed s (parts-allowed s e)) k l) ∙ n)))
-    (λ e. e)
-
-pub others-refused : (r : Midi1ToMidi2Group) → OthersRefused r
-others-refused r =
-    record {
-      message-refused =
-          λ c k w h l n.
-          let e : recordAllowed r ≡ false = one-refused (r .state) 16 c h (state-refused (stateOn r c) k l n) in
-          (rw e, rw e);
-      flush-refused =
-          λ c k g d h l n.
-          let e : recordAllowed r ≡ false = one-refused (r .state) 16 c h (state-refused (stateOn r c) k l n) in
-          (rw e, rw e);
     }
 
 -- the words of a list, from its first message on

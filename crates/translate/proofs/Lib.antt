@@ -2,4 +2,5 @@
 pub mod Kept
 pub mod Always
 pub mod Reached
+pub mod Refused
 pub mod Exact

@@ -12,23 +12,20 @@ use Rattle.translate_state.specs.declared.Midi1ToMidi2Group.{Midi1ToMidi2Group}
 use Rattle.translate_state.specs.State.{newRecord, stateOn, heldAllowed, flagsAllowed}
 use Rattle.translate.specs.Translate.{translationOf, recordAfter, flushReply, flushedRecord}
 
--- the calls on a record: a message's word, a flush of a group and a channel, a reset
+-- the calls on a record: a message's word, a flush of a group and a channel. (A reset gives a new record, and a list of calls begins again.)
 pub data TranslatorCall : Type 0 where
   translate-words : ℕ → TranslatorCall
   flush : ℕ → ℕ → TranslatorCall
-  reset : TranslatorCall
 
 -- what a call answers
 abbrev pub answerTo : Midi1ToMidi2Group → TranslatorCall → Outcome (List ℕ)
 answerTo r (translate-words w) = translationOf r w
 answerTo r (flush g c) = flushReply r g c
-answerTo r reset = given []
 
 -- the record after a call
 abbrev pub translatorAfter : Midi1ToMidi2Group → TranslatorCall → Midi1ToMidi2Group
 translatorAfter r (translate-words w) = recordAfter r w
 translatorAfter r (flush g c) = flushedRecord r g c
-translatorAfter r reset = newRecord
 
 -- a call gives this answer and leaves this record: what the contract of each call says
 abbrev pub TranslatorGives : Midi1ToMidi2Group → TranslatorCall → Outcome (List ℕ) → Midi1ToMidi2Group → Type 0
@@ -105,7 +102,6 @@ allMessages (w ∷ ws) = wordForm w && allMessages ws
 abbrev pub ofMessage : TranslatorCall → Bool
 ofMessage (translate-words w) = wordForm w
 ofMessage (flush g c) = true
-ofMessage reset = true
 
 abbrev pub isGiven : Outcome (List ℕ) → Bool
 isGiven (given words) = true

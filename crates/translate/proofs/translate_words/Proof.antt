@@ -9,7 +9,8 @@ use Rattle.translate_state.proofs.Allowed.{data-allowed}
 use Rattle.translate_state.specs.State.{stateOn}
 use Rattle.translate.specs.Translate.{translationRead, messageTranslated, withState}
 use Prim.Native.Nat.{_<_}
-use Rattle.translate.proofs.Exact.{continues, exactly-accepted, others-refused}
+use Rattle.translate.proofs.Refused.{others-refused}
+use Rattle.translate.proofs.Exact.{continues, exactly-accepted}
 use Rattle.translate.specs.Translate.{translationOf, recordAfter}
 use Rattle.ump.specs.Outcome.{outOfRange}
 use mathlib.Core.Path.{_≡_}
