@@ -16,8 +16,9 @@ use Rattle.translate.specs.declared.Stepped.{Stepped}
 use Rattle.translate_state.specs.State.{held, kindIn, pendingIn, nullAfterIn, newRecord, stateOn, stateAllowed, recordAllowed, pendingSent, mcmSelected, entryHeld}
 use Rattle.translate.specs.Translate.{translationRead, translationOf, recordAfter, controllerNumbered, controller, pendingWords, enteredAfter, lsbEntered, controlChanged, programWords, messageTranslated}
 use Rattle.translate.specs.Lists.{TranslatorCall, translate-words, flush, reset, answerTo, translatorAfterAll, wordsAnswered, wordsFrom, ListContinues, byteOf, byteAllowed, ofMessage, isGiven, ExactlyAccepted, OthersRefused}
+use Rattle.translate.specs.Rules.{Formed}
 use Rattle.translate_state.proofs.Allowed.{Allowed, parts-allowed, one-refused}
-use Rattle.translate.proofs.Always.{Formed, new-formed, on-allowed, always-formed}
+use Rattle.translate.proofs.Always.{new-formed, on-allowed, always-formed}
 use Rattle.translate.proofs.Reached.{Each, nothing, _and_, at, leads}
 
 -- words, or none, and no refusal

@@ -68,9 +68,9 @@ byteOf s k =
 abbrev pub byteAllowed : ℕ → ℕ → Bool
 byteAllowed k x = if eqb k 7 then flagsAllowed x else heldAllowed x
 
--- a Control Change of group 0
-abbrev pub control : ℕ → ℕ → ℕ → ℕ
-control c n v = wordOf 0 0xB c n v
+-- a Control Change
+abbrev pub control : ℕ → ℕ → ℕ → ℕ → ℕ
+control g c n v = wordOf g 0xB c n v
 
 -- the controller that gives a held byte its value
 abbrev pub controllerOf : ℕ → ℕ
@@ -81,20 +81,20 @@ controllerOf k =
 -- messages on channel c that give its flags a value, for each of the nine
 unfoldable pub leadingToFlags : ℕ → ℕ → List ℕ
 leadingToFlags c f =
-    if eqb f 1 then control c 101 0 ∷ [] else
-    if eqb f 2 then control c 99 0 ∷ [] else
-    if eqb f 4 then control c 6 0 ∷ [] else
-    if eqb f 5 then control c 101 0 ∷ control c 6 0 ∷ [] else
-    if eqb f 6 then control c 99 0 ∷ control c 6 0 ∷ [] else
-    if eqb f 12 then control c 6 0 ∷ control c 121 0 ∷ [] else
-    if eqb f 13 then control c 101 0 ∷ control c 6 0 ∷ control c 121 0 ∷ [] else
-    if eqb f 14 then control c 99 0 ∷ control c 6 0 ∷ control c 121 0 ∷ [] else
+    if eqb f 1 then control 0 c 101 0 ∷ [] else
+    if eqb f 2 then control 0 c 99 0 ∷ [] else
+    if eqb f 4 then control 0 c 6 0 ∷ [] else
+    if eqb f 5 then control 0 c 101 0 ∷ control 0 c 6 0 ∷ [] else
+    if eqb f 6 then control 0 c 99 0 ∷ control 0 c 6 0 ∷ [] else
+    if eqb f 12 then control 0 c 6 0 ∷ control 0 c 121 0 ∷ [] else
+    if eqb f 13 then control 0 c 101 0 ∷ control 0 c 6 0 ∷ control 0 c 121 0 ∷ [] else
+    if eqb f 14 then control 0 c 99 0 ∷ control 0 c 6 0 ∷ control 0 c 121 0 ∷ [] else
     []
 
 -- messages on channel c that give its byte k the value x
 unfoldable pub leadingTo : ℕ → ℕ → ℕ → List ℕ
 leadingTo c k x =
-    if eqb k 7 then leadingToFlags c x else if eqb x 0 then [] else control c (controllerOf k) (x - 1) ∷ []
+    if eqb k 7 then leadingToFlags c x else if eqb x 0 then [] else control 0 c (controllerOf k) (x - 1) ∷ []
 
 -- each word of a list has the word form
 unfoldable pub allMessages : List ℕ → Bool
