@@ -16,9 +16,9 @@ use Rattle.translate_state.specs.declared.Midi1ToMidi2Group.{Midi1ToMidi2Group}
 use Rattle.translate_state.specs.State.{held, channelState, pendingSent, selected, mcmSelected, entryHeld, completed, controllersReset, stateOn, flagsAllowed}
 use Rattle.translate.specs.declared.Translation.{Translation}
 use Rattle.translate.specs.declared.Translation.the-variants.{Words, Nothing, OutOfRange}
-use Rattle.translate.specs.Translate.{translationRead, firstWord, controllerData, controllerNumbered, controller, pendingWords, channelStep, enteredAfter, lsbEntered, passedOn, controlChanged, messageTranslated, recordAfter, flushReply, flushedRecord}
+use Rattle.translate.specs.Translate.{translationRead, firstWord, controllerData, controllerNumbered, controller, pendingWords, channelStep, enteredAfter, lsbEntered, passedOn, controlChanged, messageTranslated, recordAfter, flushedRecord}
 use Rattle.translate.specs.Lists.{translate-words, flush, translatorAfterAll, wordsFrom, control}
-use Rattle.translate.specs.Rules.{Formed, recordAfterAll, controlWords, registeredWords, assignableWords, NullNumber, McmNumber, EntryRules}
+use Rattle.translate.specs.Rules.{Formed, recordAfterAll, controlWords, registeredWords, assignableWords, NullNumber, McmNumber, EntryRules, McmRules}
 use Rattle.translate_state.proofs.Kept.{sent-kept, sent-kind}
 use Rattle.translate.proofs.Always.{on-allowed, after-formed, always-formed}
 use Rattle.translate.proofs.Reached.{Each, nothing, _and_, at}
@@ -167,7 +167,7 @@ module _ (rm rl nm nl bm bl : ℕ) where
     next-6 k x z h m =
         rw (pending-words g c k x, pending-sent k (x + 1), entry-held k (x + 1) z h) (entered (words-of k g c (x * 2 ^ 7)) g c _ (mcm-of k (z + 1) ∙ m))
 
-    -- 38 with an entry pending, after it, and with a reset noted
+    -- 38 with an entry pending, after it, with no 6 before it, and with a reset noted
     first-38 : (k : Kind) (x y : ℕ)
         → controlChanged g c (at-flags (x + 1) (code-pending k)) 38 y ≡ channelStep (at-flags (x + 1) (code k)) (words-of k g c (x * 2 ^ 7 + y))
     unfolding controlChanged lsbEntered completed controller
@@ -181,6 +181,12 @@ module _ (rm rl nm nl bm bl : ℕ) where
     next-38 none x y = rw (some x)
     next-38 rpn x y = rw (some x, back x)
     next-38 nrpn x y = rw (some x, back x)
+
+    none-38 : (k : Kind) (y : ℕ) → controlChanged g c (at-flags 0 (code k)) 38 y ≡ channelStep (at-flags 0 (code k)) Nothing
+    unfolding controlChanged lsbEntered
+    none-38 none y = refl
+    none-38 rpn y = refl
+    none-38 nrpn y = refl
 
     reset-38 : (k : Kind) (x y : ℕ)
         → controlChanged g c (at-flags (x + 1) (code-reset k)) 38 y ≡ channelStep (nulled (x + 1) bm bl (code k)) (words-of k g c (x * 2 ^ 7))
@@ -295,6 +301,11 @@ module _ (g c : ℕ) (hg : g < 16) (hc : c < 16) (k : Kind) (a1 a2 a3 a4 rm rl n
                 (hold bm bl x hx
                 (said g c hg hc 38 y (omega arith) hy _ (entry g (x * 2 ^ 7 + y)) (first-38 rm rl nm nl bm bl g c k x y) (read g (x * 2 ^ 7 + y))
                 (said-last g c hg hc 38 z (omega arith) hz _ (entry g (x * 2 ^ 7 + z)) (next-38 rm rl nm nl bm bl g c k x z) (read g (x * 2 ^ 7 + z)) (ended c _))));
+            no-value =
+                λ y hy.
+                words-from
+                (silent g c hg hc n2 v2 hn hv (select 0 bm bl)
+                (silent g c hg hc 38 y (omega arith) hy (none-38 rm rl nm nl bm bl g c k y) (ended c _)));
             ended-by-6 =
                 λ x z w hx hz hw.
                 words-from
@@ -488,25 +499,34 @@ module _ (r : Midi1ToMidi2Group) (f : Formed r) (g c : ℕ) (hg : g < 16) (hc : 
       → Gives c (mcm-state d) (control g c 6 x ∷ ws) (registeredWords c 0 6 g (x * 2 ^ 7) ++ out) t
   then-6 d x h rest = said g c hg hc 6 x (omega arith) h _ (registeredWords c 0 6 g (x * 2 ^ 7)) (mcm-6 d x h) (mcm-read (x * 2 ^ 7)) rest
 
-  mcm-list : {ws out : List ℕ} {t : ChannelState} → Gives c (mcm-state 0) ws out t
-      → Gives c (on 1 (before .«rpn_lsb») (before .«nrpn_msb») (before .«nrpn_lsb») 0 (before .«bank_msb») (before .«bank_lsb») 1) (control g c 100 6 ∷ ws) out t
-  mcm-list rest = silent g c hg hc 100 6 (omega arith) (omega arith) (second-100 g c _ _ _ _ _ _ _ 6 (omega arith)) rest
+  module _ (first n2 v2 : ℕ) (hn : n2 < 128) (hv : v2 < 128) (s : ChannelState) (start : stateOn (recordAfter r first) c ≡ s)
+      (select : controlChanged g c s n2 v2 ≡ channelStep (mcm-state 0) Nothing)
+    where
+      mcm-list : {ws out : List ℕ} {t : ChannelState} → Gives c (mcm-state 0) ws out t → Gives c s (control g c n2 v2 ∷ ws) out t
+      mcm-list rest = silent g c hg hc n2 v2 hn hv select rest
 
-  pub mcm-entries : (x z : ℕ) → x < 128 → z < 128
-      → wordsFrom (recordAfter r (control g c 101 0)) (control g c 100 6 ∷ control g c 6 x ∷ control g c 6 z ∷ [])
-      ≡ registeredWords c 0 6 g (x * 2 ^ 7) ++ registeredWords c 0 6 g (z * 2 ^ 7)
-  mcm-entries x z hx hz =
-      mcm-list (then-6 0 x hx (then-6 (x + 1) z hz (ended c _))) .gives (recordAfter r (control g c 101 0)) (after-formed r f (translate-words (control g c 101 0))) (half-101 0 (omega arith))
+      mcm-rules : McmRules r g c first (control g c n2 v2)
+      unfolding translatorAfterAll
+      mcm-rules =
+          let o = after-formed r f (translate-words first) in
+          record {
+            sent-at-once =
+                λ x z hx hz. mcm-list (then-6 0 x hx (then-6 (x + 1) z hz (ended c _))) .gives (recordAfter r first) o start;
+            not-pending =
+                λ h x hh hx.
+                let q = recordAfterAll r (first ∷ control g c n2 v2 ∷ control g c 6 x ∷ []) in
+                let e : stateOn q c ≡ mcm-state (x + 1) = mcm-list (then-6 0 x hx (ended c _)) .leaves (recordAfter r first) o start in
+                flush-answer q (all-formed r f (first ∷ control g c n2 v2 ∷ control g c 6 x ∷ [])) h c hh hc
+                ∙ rw (e, none-pending 1 7 (before .«nrpn_msb») (before .«nrpn_lsb») (before .«bank_msb») (before .«bank_lsb») h c rpn (x + 1));
+          }
 
-  pub mcm-not-held : (h x : ℕ) → h < 16 → x < 128
-      → flushReply (recordAfterAll r (control g c 101 0 ∷ control g c 100 6 ∷ control g c 6 x ∷ [])) h c ≡ given []
-  unfolding translatorAfterAll
-  mcm-not-held h x hh hx =
-      let q = recordAfterAll r (control g c 101 0 ∷ control g c 100 6 ∷ control g c 6 x ∷ []) in
-      let e : stateOn q c ≡ mcm-state (x + 1) =
-      mcm-list (then-6 0 x hx (ended c _)) .leaves (recordAfter r (control g c 101 0)) (after-formed r f (translate-words (control g c 101 0))) (half-101 0 (omega arith)) in
-      flush-answer q (all-formed r f (control g c 101 0 ∷ control g c 100 6 ∷ control g c 6 x ∷ [])) h c hh hc
-      ∙ rw (e, none-pending 1 7 (before .«nrpn_msb») (before .«nrpn_lsb») (before .«bank_msb») (before .«bank_lsb») h c rpn (x + 1))
+  pub mcm-entries : McmRules r g c (control g c 101 0) (control g c 100 6)
+  mcm-entries =
+      mcm-rules (control g c 101 0) 100 6 (omega arith) (omega arith) _ (half-101 0 (omega arith)) (second-100 g c _ _ _ _ _ _ _ 6 (omega arith))
+
+  pub mcm-entries-lsb-first : McmRules r g c (control g c 100 6) (control g c 101 0)
+  mcm-entries-lsb-first =
+      mcm-rules (control g c 100 6) 101 0 (omega arith) (omega arith) _ (half-100 6 (omega arith)) (second-101 g c _ _ _ _ _ _ _ 0 (omega arith))
 
   -- 121 after `flush`
   null-at-once : (k : Kind) (v x y : ℕ) → v < 128 → x < 128 → y < 128 → before .flags ≡ code k

@@ -62,13 +62,14 @@ pub record PassingRules (r : Midi1ToMidi2Group) (g c : ℕ) : Type 0 where
   pub note-on-0 : (n : ℕ) → n < 128 → PassesAs r (wordOf g 0x9 c n 0) (firstWord g 0x8 c n 0) 0x80000000
   pub note-on : (n v : ℕ) → n < 128 → 0 < v → v < 128 → PassesAs r (wordOf g 0x9 c n v) (firstWord g 0x9 c n 0) (widened 7 16 v * 2 ^ 16)
   pub note-off : (n v : ℕ) → n < 128 → v < 128 → PassesAs r (wordOf g 0x8 c n v) (firstWord g 0x8 c n 0) (widened 7 16 v * 2 ^ 16)
-  -- D.3.2, D.3.5, D.3.6
+  -- pressure and pitch bend, of which the second byte is the upper half, are widened to 32 bits
   pub poly-pressure : (n v : ℕ) → n < 128 → v < 128 → PassesAs r (wordOf g 0xA c n v) (firstWord g 0xA c n 0) (widened 7 32 v)
   pub channel-pressure : (v : ℕ) → v < 128 → PassesAs r (wordOf g 0xD c v 0) (firstWord g 0xD c 0 0) (widened 7 32 v)
   pub pitch-bend : (l m : ℕ) → l < 128 → m < 128 → PassesAs r (wordOf g 0xE c l m) (firstWord g 0xE c 0 0) (widened 14 32 (m * 2 ^ 7 + l))
   -- every controller that is not held (D.3.3); 121 too, which does alter the record (RP-015)
   pub controllers : (n v : ℕ) → n < 128 → v < 128 → heldController n ≡ false → translationOf r (control g c n v) ≡ given (controlWords g c n v)
-  pub controllers-hold-nothing : (n v : ℕ) → n < 128 → v < 128 → heldController n ≡ false → (n ≡ 121 → ⊥) → recordAfter r (control g c n v) ≡ r
+  pub controllers-hold-nothing : (n v : ℕ) → n < 128 → v < 128 → heldController n ≡ false → (n ≡ 121 → ⊥)
+      → recordAfter r (control g c n v) ≡ r
 
 -- a program change carries the bank, if one was given since the last (D.3.4)
 pub record BankRules (r : Midi1ToMidi2Group) (g c : ℕ) : Type 0 where
@@ -79,19 +80,21 @@ pub record BankRules (r : Midi1ToMidi2Group) (g c : ℕ) : Type 0 where
       → wordsFrom r (control g c 0 m ∷ programChange g c p ∷ []) ≡ firstWord g 0xC c 0 1 ∷ (p * 2 ^ 24 + m * 2 ^ 8) ∷ []
   -- an LSB alone has MSB 0
   pub bank-lsb : (q l p : ℕ) → q < 128 → l < 128 → p < 128
-      → wordsFrom (recordAfter r (programChange g c q)) (control g c 32 l ∷ programChange g c p ∷ []) ≡ firstWord g 0xC c 0 1 ∷ (p * 2 ^ 24 + l) ∷ []
+      → wordsFrom (recordAfter r (programChange g c q)) (control g c 32 l ∷ programChange g c p ∷ [])
+      ≡ firstWord g 0xC c 0 1 ∷ (p * 2 ^ 24 + l) ∷ []
   -- without one Bank Valid is 0, and so is the bank
   pub no-bank : (q p : ℕ) → q < 128 → p < 128
       → translationOf (recordAfter r (programChange g c q)) (programChange g c p) ≡ given (firstWord g 0xC c 0 0 ∷ p * 2 ^ 24 ∷ [])
 
 -- a parameter number is selected by two messages, and `entry` is what its entries give, by group and value of 14 bits (D.3.3)
 pub record EntryRules (r : Midi1ToMidi2Group) (g c first second : ℕ) (entry : ℕ → ℕ → List ℕ) : Type 0 where
-  -- 6 and 38 are one message, and each further 38 is one more
+  -- 6 and 38 give one message, each further 38 one more, and 38 without 6 none
   pub completed-by-38 : (x y : ℕ) → x < 128 → y < 128
       → wordsFrom (recordAfter r first) (second ∷ control g c 6 x ∷ control g c 38 y ∷ []) ≡ entry g (x * 2 ^ 7 + y)
   pub again-by-38 : (x y z : ℕ) → x < 128 → y < 128 → z < 128
       → wordsFrom (recordAfter r first) (second ∷ control g c 6 x ∷ control g c 38 y ∷ control g c 38 z ∷ [])
       ≡ entry g (x * 2 ^ 7 + y) ++ entry g (x * 2 ^ 7 + z)
+  pub no-value : (y : ℕ) → y < 128 → wordsFrom (recordAfter r first) (second ∷ control g c 38 y ∷ []) ≡ []
   -- a 6 that no 38 follows has LSB 0: it is sent at the next 6, at 98 to 101, or by `flush`, once
   pub ended-by-6 : (x z w : ℕ) → x < 128 → z < 128 → w < 128
       → wordsFrom (recordAfter r first) (second ∷ control g c 6 x ∷ control g c 6 z ∷ control g c 38 w ∷ [])
@@ -104,7 +107,8 @@ pub record EntryRules (r : Midi1ToMidi2Group) (g c first second : ℕ) (entry : 
       → flushReply (flushedRecord (recordAfterAll r (first ∷ second ∷ control g c 6 x ∷ [])) h c) h c ≡ given []
   -- 121 passes on; what is pending is still sent, with LSB 0 even at 38, and then the number is null (RP-015)
   pub reset-then-38 : (x v y z w : ℕ) → x < 128 → v < 128 → y < 128 → z < 128 → w < 128
-      → wordsFrom (recordAfter r first) (second ∷ control g c 6 x ∷ control g c 121 v ∷ control g c 38 y ∷ control g c 6 z ∷ control g c 38 w ∷ [])
+      → wordsFrom (recordAfter r first)
+      (second ∷ control g c 6 x ∷ control g c 121 v ∷ control g c 38 y ∷ control g c 6 z ∷ control g c 38 w ∷ [])
       ≡ controlWords g c 121 v ++ entry g (x * 2 ^ 7)
   pub reset-then-6 : (x v z w : ℕ) → x < 128 → v < 128 → z < 128 → w < 128
       → wordsFrom (recordAfter r first) (second ∷ control g c 6 x ∷ control g c 121 v ∷ control g c 6 z ∷ control g c 38 w ∷ [])
@@ -116,8 +120,17 @@ pub record EntryRules (r : Midi1ToMidi2Group) (g c first second : ℕ) (entry : 
       → flushReply (recordAfterAll r (first ∷ second ∷ control g c 6 x ∷ control g c 121 v ∷ [])) h c ≡ given (entry h (x * 2 ^ 7))
   -- the bank and the entry do not touch each other
   pub beside-bank : (b x a p y : ℕ) → b < 128 → x < 128 → a < 128 → p < 128 → y < 128
-      → wordsFrom (recordAfter r first) (control g c 0 b ∷ second ∷ control g c 6 x ∷ control g c 32 a ∷ programChange g c p ∷ control g c 38 y ∷ [])
+      → wordsFrom (recordAfter r first)
+      (control g c 0 b ∷ second ∷ control g c 6 x ∷ control g c 32 a ∷ programChange g c p ∷ control g c 38 y ∷ [])
       ≡ (firstWord g 0xC c 0 1 ∷ (p * 2 ^ 24 + (b * 2 ^ 8 + a)) ∷ []) ++ entry g (x * 2 ^ 7 + y)
+
+-- RPN 0/6 is selected by two messages. It has no LSB: each 6 is sent at once, and nothing is pending (M1-100 2.2.1).
+pub record McmRules (r : Midi1ToMidi2Group) (g c first second : ℕ) : Type 0 where
+  pub sent-at-once : (x z : ℕ) → x < 128 → z < 128
+      → wordsFrom (recordAfter r first) (second ∷ control g c 6 x ∷ control g c 6 z ∷ [])
+      ≡ registeredWords c 0 6 g (x * 2 ^ 7) ++ registeredWords c 0 6 g (z * 2 ^ 7)
+  pub not-pending : (h x : ℕ) → h < 16 → x < 128
+      → flushReply (recordAfterAll r (first ∷ second ∷ control g c 6 x ∷ [])) h c ≡ given []
 
 -- from a record that is accepted, whatever it holds
 pub record TranslatedByRules (r : Midi1ToMidi2Group) : Type 0 where
@@ -135,12 +148,9 @@ pub record TranslatedByRules (r : Midi1ToMidi2Group) : Type 0 where
   -- the null number gives nothing
   pub registered-null : (g c : ℕ) → g < 16 → c < 16 → EntryRules r g c (control g c 101 0x7F) (control g c 100 0x7F) (λ h v. [])
   pub assignable-null : (g c : ℕ) → g < 16 → c < 16 → EntryRules r g c (control g c 99 0x7F) (control g c 98 0x7F) (λ h v. [])
-  -- RPN 0/6 has no LSB: each 6 is sent at once, and nothing is pending (M1-100 2.2.1)
-  pub mcm : (g c x z : ℕ) → g < 16 → c < 16 → x < 128 → z < 128
-      → wordsFrom (recordAfter r (control g c 101 0)) (control g c 100 6 ∷ control g c 6 x ∷ control g c 6 z ∷ [])
-      ≡ registeredWords c 0 6 g (x * 2 ^ 7) ++ registeredWords c 0 6 g (z * 2 ^ 7)
-  pub mcm-not-pending : (g h c x : ℕ) → g < 16 → h < 16 → c < 16 → x < 128
-      → flushReply (recordAfterAll r (control g c 101 0 ∷ control g c 100 6 ∷ control g c 6 x ∷ [])) h c ≡ given []
+  -- RPN 0/6, its halves in either order
+  pub mcm : (g c : ℕ) → g < 16 → c < 16 → McmRules r g c (control g c 101 0) (control g c 100 6)
+  pub mcm-lsb-first : (g c : ℕ) → g < 16 → c < 16 → McmRules r g c (control g c 100 6) (control g c 101 0)
   -- where nothing is pending, as after `flush`, 121 makes the number null at once (RP-015)
   pub reset-null : (g h c v x y : ℕ) → g < 16 → h < 16 → c < 16 → v < 128 → x < 128 → y < 128
       → wordsFrom (flushedRecord r h c) (control g c 121 v ∷ control g c 6 x ∷ control g c 38 y ∷ []) ≡ controlWords g c 121 v
