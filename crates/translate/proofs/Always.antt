@@ -7,7 +7,7 @@ use Prim.Native.Nat.{ℕ, _%_, _<_}
 use native.Mathlib.Nat.{mod-lt}
 use borrow.Author.Tests.{eqb-true, eqb-false}
 use lib.Dec.{eqb, lit<}
-use lib.ListN.{length, getD, set, length-set}
+use lib.ListN.{getD, set, length-set}
 use lib.Seq.{getD-set-same, getD-set-other}
 use Rattle.ump.specs.Word.{channelOf, wordForm}
 use Rattle.ump.proofs.Cases.{by-test, of-both}
@@ -16,15 +16,10 @@ use Rattle.translate_state.specs.declared.ChannelState.{ChannelState}
 use Rattle.translate_state.specs.declared.Midi1ToMidi2Group.{Midi1ToMidi2Group}
 use Rattle.translate_state.specs.State.{emptyState, newRecord, stateOn, stateAllowed, allowedTo, recordAllowed}
 use Rattle.translate.specs.Translate.{withState}
-use Rattle.translate.specs.Lists.{TranslatorCall, translate-words, flush, translatorAfter, translatorAfterAll}
+use Rattle.translate.specs.Lists.{TranslatorCall, translate-words, flush, translatorAfter, translatorAfterAll, Formed}
 use Rattle.translate_state.proofs.Allowed.{Allowed, parts-allowed, of-parts, each-allowed, all-allowed}
 use Rattle.translate_state.proofs.Kept.{sent-kept}
 use Rattle.translate.proofs.Kept.{step-kept}
-
--- sixteen channels, and each of them allowed
-pub record Formed (r : Midi1ToMidi2Group) : Type 0 where
-  pub size : length (r .state) ≡ 16
-  pub allowed : recordAllowed r ≡ true
 
 pub new-formed : Formed newRecord
 unfolding allowedTo stateAllowed

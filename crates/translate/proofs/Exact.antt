@@ -14,8 +14,8 @@ use Rattle.translate.specs.declared.Translation.the-variants.{Words, Not
 use Rattle.translate.specs.declared.Stepped.{Stepped}
 use Rattle.translate_state.specs.State.{held, kindIn, pendingIn, nullAfterIn, newRecord, stateOn, pendingSent, mcmSelected, entryHeld}
 use Rattle.translate.specs.Translate.{translationRead, translationOf, recordAfter, controllerNumbered, controller, pendingWords, enteredAfter, lsbEntered, controlChanged, programWords, messageTranslated}
-use Rattle.translate.specs.Lists.{TranslatorCall, translate-words, flush, answerTo, translatorAfterAll, wordsAnswered, wordsFrom, ListContinues, ofMessage, isGiven, ExactlyAccepted}
-use Rattle.translate.proofs.Always.{Formed, new-formed, on-allowed, always-formed}
+use Rattle.translate.specs.Lists.{TranslatorCall, translate-words, flush, answerTo, translatorAfterAll, wordsAnswered, wordsFrom, ListContinues, ofMessage, isGiven, ExactlyAccepted, Formed}
+use Rattle.translate.proofs.Always.{new-formed, on-allowed, always-formed}
 use Rattle.translate.proofs.Reached.{at, leads}
 use Rattle.translate.proofs.Refused.{bytes-allowed}
 
@@ -94,6 +94,7 @@ exactly-accepted =
           λ calls c k h l.
           let f = always-formed newRecord new-formed calls in
           at (bytes-allowed (stateOn (translatorAfterAll newRecord calls) c) (on-allowed (translatorAfterAll newRecord calls) f c h)) k l;
+      formed = λ calls. always-formed newRecord new-formed calls;
       answered = λ calls call m. answered (translatorAfterAll newRecord calls) (always-formed newRecord new-formed calls) call m;
       reached = λ c k x h l a. leads c h k x l a;
     }

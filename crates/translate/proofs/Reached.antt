@@ -11,17 +11,16 @@ use borrow.Author.Tests.{eqb-true, eqb-false, leb-true}
 use lib.Dec.{eqb}
 use lib.ListN.{getD-replicate}
 use Rattle.ump.specs.Choice.{if_then_else_}
-use Rattle.ump.specs.Field.{field}
-use Rattle.ump.specs.Word.{opcodeOf, channelOf, firstOf, secondOf, wordForm}
+use Rattle.ump.specs.Word.{wordForm}
 use Rattle.ump.proofs.Cases.{by-test}
-use Rattle.ump.proofs.Words.{PartsFit, group-of-word, opcode-of-word, channel-of-word, first-of-word, second-of-word, form-of-word}
 use Rattle.translate_state.specs.declared.ChannelState.{ChannelState}
 use Rattle.translate_state.specs.declared.Midi1ToMidi2Group.{Midi1ToMidi2Group}
 use Rattle.translate_state.specs.State.{emptyState, newRecord, stateOn, flagsAllowed, pendingSent, selected, mcmSelected, entryHeld, controllersReset}
-use Rattle.translate.specs.Translate.{pendingWords, enteredAfter, controlChanged, messageTranslated, withState, recordAfter}
-use Rattle.translate.specs.Lists.{translate-words, translatorAfterAll, byteOf, byteAllowed, control, controllerOf, leadingToFlags, leadingTo, allMessages}
+use Rattle.translate.specs.Translate.{pendingWords, enteredAfter, controlChanged, messageTranslated, recordAfter}
+use Rattle.translate.specs.Lists.{translate-words, translatorAfterAll, byteOf, byteAllowed, control, controllerOf, leadingToFlags, leadingTo, allMessages, Formed}
 use Rattle.translate_state.proofs.Flags.{flags-lt}
-use Rattle.translate.proofs.Always.{Formed, new-formed, on-set, after-formed}
+use Rattle.translate.proofs.Always.{new-formed, after-formed}
+use Rattle.translate.proofs.Messages.{Fits, fits-B, state-of}
 
 -- a fact of each number below n
 pub data Each (P : ℕ → Type 0) : ℕ → Type 0 where
@@ -34,44 +33,32 @@ at nothing k h = absurd (not-suc-le-zero h)
 at {P} (all and p) k h =
     ⊎-elim (λ (e : k ≡ _). subst P (sym e) p) (λ b. at all k b) (eq-or-lt-of-le (le-of-suc-le-suc h))
 
--- a control change, by the fields of its word
-pub after-control : (r : Midi1ToMidi2Group) → Formed r → (w g c n v : ℕ) → wordForm w ≡ true → field 24 4 w ≡ g → channelOf w ≡ c → opcodeOf w ≡ 0xB → firstOf w ≡ n → secondOf w ≡ v
-    → recordAfter r w ≡ withState r c (controlChanged g c (stateOn r c) n v .state)
-unfolding messageTranslated
-after-control r f w g c n v form eg ec eo en ev =
-    rw (f .allowed, form)
-    (λ i. withState r (ec i) (messageTranslated (eg i) (ec i) (stateOn r (ec i)) (eo i) (en i) (ev i) .state))
-
 module _ (c : ℕ) (h : c < 16) where
   -- the state that a control change leaves
   abbrev left : ChannelState → ℕ → ℕ → ChannelState
   left s n v = controlChanged 0 c s n v .state
 
-  fit : (n v : ℕ) → n < 128 → v < 128 → PartsFit 0 0xB c n v
-  fit n v a b =
-      record { group-lt = omega arith; opcode-lt = omega arith; channel-lt = h; first-lt = a; second-lt = b }
+  fits : (n v : ℕ) → n < 128 → v < 128 → Fits 0 0xB c n v
+  fits n v a b = fits-B 0 c n v (omega arith) h a b
 
-  pub control-form : (n v : ℕ) → n < 128 → v < 128 → wordForm (control c n v) ≡ true
-  control-form n v a b = form-of-word 0 0xB c n v (fit n v a b) (omega arith) (omega arith) (λ z. absurd (true≢false (sym z)))
+  control-form : (n v : ℕ) → n < 128 → v < 128 → wordForm (control 0 c n v) ≡ true
+  control-form n v a b = fits n v a b .form
 
-  pub one : (r : Midi1ToMidi2Group) → Formed r → (n v : ℕ) → n < 128 → v < 128 → stateOn (recordAfter r (control c n v)) c ≡ left (stateOn r c) n v
-  one r f n v a b =
-      let p = fit n v a b in
-      ap (λ q. stateOn q c)
-      (after-control r f (control c n v) 0 c n v (control-form n v a b) (group-of-word 0 0xB c n v p) (channel-of-word 0 0xB c n v p) (opcode-of-word 0 0xB c n v p) (first-of-word 0 0xB c n v p) (second-of-word 0 0xB c n v p))
-      ∙ on-set r f c (left (stateOn r c) n v) h
+  one : (r : Midi1ToMidi2Group) → Formed r → (n v : ℕ) → n < 128 → v < 128 → stateOn (recordAfter r (control 0 c n v)) c ≡ left (stateOn r c) n v
+  unfolding messageTranslated
+  one r f n v a b = state-of r f 0 0xB c n v (fits n v a b)
 
   two : (r : Midi1ToMidi2Group) → Formed r → (n v m u : ℕ) → n < 128 → v < 128 → m < 128 → u < 128
-      → stateOn (recordAfter (recordAfter r (control c n v)) (control c m u)) c ≡ left (left (stateOn r c) n v) m u
+      → stateOn (recordAfter (recordAfter r (control 0 c n v)) (control 0 c m u)) c ≡ left (left (stateOn r c) n v) m u
   two r f n v m u a b d e =
-      one (recordAfter r (control c n v)) (after-formed r f (translate-words (control c n v))) m u d e
+      one (recordAfter r (control 0 c n v)) (after-formed r f (translate-words (control 0 c n v))) m u d e
       ∙ ap (λ s. left s m u) (one r f n v a b)
 
   -- Reset All Controllers after two others
   then-121 : (r : Midi1ToMidi2Group) → Formed r → (n v m u : ℕ) → n < 128 → v < 128 → m < 128 → u < 128
-      → stateOn (recordAfter (recordAfter (recordAfter r (control c n v)) (control c m u)) (control c 121 0)) c ≡ left (left (left (stateOn r c) n v) m u) 121 0
+      → stateOn (recordAfter (recordAfter (recordAfter r (control 0 c n v)) (control 0 c m u)) (control 0 c 121 0)) c ≡ left (left (left (stateOn r c) n v) m u) 121 0
   then-121 r f n v m u a b d e =
-      two (recordAfter r (control c n v)) (after-formed r f (translate-words (control c n v))) m u 121 0 d e (omega arith) (omega arith)
+      two (recordAfter r (control 0 c n v)) (after-formed r f (translate-words (control 0 c n v))) m u 121 0 d e (omega arith) (omega arith)
       ∙ ap (λ s. left (left s m u) 121 0) (one r f n v a b)
 
   empty : stateOn newRecord c ≡ emptyState
@@ -86,17 +73,17 @@ module _ (c : ℕ) (h : c < 16) where
   unfolding allMessages translatorAfterAll
   by-none k e = (refl, rw empty e)
 
-  by-one : (k x n v : ℕ) → n < 128 → v < 128 → byteOf (left emptyState n v) k ≡ x → Leads k x (control c n v ∷ [])
+  by-one : (k x n v : ℕ) → n < 128 → v < 128 → byteOf (left emptyState n v) k ≡ x → Leads k x (control 0 c n v ∷ [])
   unfolding allMessages translatorAfterAll
   by-one k x n v a b e = (rw (control-form n v a b), rw (one newRecord new-formed n v a b, empty) e)
 
-  by-two : (x n v m u : ℕ) → n < 128 → v < 128 → m < 128 → u < 128 → left (left emptyState n v) m u .flags ≡ x → Leads 7 x (control c n v ∷ control c m u ∷ [])
+  by-two : (x n v m u : ℕ) → n < 128 → v < 128 → m < 128 → u < 128 → left (left emptyState n v) m u .flags ≡ x → Leads 7 x (control 0 c n v ∷ control 0 c m u ∷ [])
   unfolding allMessages translatorAfterAll
   by-two x n v m u a b d e g =
       (rw (control-form n v a b, control-form m u d e), rw (two newRecord new-formed n v m u a b d e, empty) g)
 
   by-three : (x n v m u : ℕ) → n < 128 → v < 128 → m < 128 → u < 128 → left (left (left emptyState n v) m u) 121 0 .flags ≡ x
-      → Leads 7 x (control c n v ∷ control c m u ∷ control c 121 0 ∷ [])
+      → Leads 7 x (control 0 c n v ∷ control 0 c m u ∷ control 0 c 121 0 ∷ [])
   unfolding allMessages translatorAfterAll
   by-three x n v m u a b d e g = (
     rw (control-form n v a b, control-form m u d e, control-form 121 0 (omega arith) (omega arith)),
@@ -133,7 +120,7 @@ module _ (c : ℕ) (h : c < 16) where
   -- a held byte: no message, or one of its controller
   held-lead : (k : ℕ) → controllerOf k < 128 → byteOf emptyState k ≡ 0
       → ((v : ℕ) → byteOf (left emptyState (controllerOf k) v) k ≡ v % 2 ^ 7 + 1)
-      → (x : ℕ) → x ≤ 128 → Leads k x (if eqb x 0 then [] else control c (controllerOf k) (x - 1) ∷ [])
+      → (x : ℕ) → x ≤ 128 → Leads k x (if eqb x 0 then [] else control 0 c (controllerOf k) (x - 1) ∷ [])
   held-lead k n e f x l =
       by-test (eqb x 0)
       (λ z. rw (z, eqb-true x 0 z) (by-none k e))

@@ -1,3 +1,4 @@
--- Definitions that the contracts cite: the words of a message, and lists of calls.
+-- Definitions that the contracts cite: the words of a message, lists of calls, and the rules over lists of messages.
 pub mod Translate
 pub mod Lists
+pub mod Rules

@@ -4,12 +4,13 @@ use mathlib.Core.Bool.{Bool, true, false, _&&_}
 use mathlib.Core.List.{List, [], _∷_, _++_, map}
 use Prim.Native.Nat.{ℕ, _-_, _<_}
 use lib.Dec.{eqb}
+use lib.ListN.{length}
 use Rattle.ump.specs.Choice.{if_then_else_}
 use Rattle.ump.specs.Outcome.{Outcome, given, declined, outOfRange}
 use Rattle.ump.specs.Word.{wordForm, wordOf}
 use Rattle.translate_state.specs.declared.ChannelState.{ChannelState}
 use Rattle.translate_state.specs.declared.Midi1ToMidi2Group.{Midi1ToMidi2Group}
-use Rattle.translate_state.specs.State.{newRecord, stateOn, heldAllowed, flagsAllowed}
+use Rattle.translate_state.specs.State.{newRecord, stateOn, heldAllowed, flagsAllowed, recordAllowed}
 use Rattle.translate.specs.Translate.{translationOf, recordAfter, flushReply, flushedRecord}
 
 -- the calls on a record: a message's word, a flush of a group and a channel. (A reset gives a new record, and a list of calls begins again.)
@@ -65,9 +66,9 @@ byteOf s k =
 abbrev pub byteAllowed : ℕ → ℕ → Bool
 byteAllowed k x = if eqb k 7 then flagsAllowed x else heldAllowed x
 
--- a Control Change of group 0
-abbrev pub control : ℕ → ℕ → ℕ → ℕ
-control c n v = wordOf 0 0xB c n v
+-- a Control Change
+abbrev pub control : ℕ → ℕ → ℕ → ℕ → ℕ
+control g c n v = wordOf g 0xB c n v
 
 -- the controller that gives a held byte its value
 abbrev pub controllerOf : ℕ → ℕ
@@ -78,20 +79,20 @@ controllerOf k =
 -- messages on channel c that give its flags a value, for each of the nine
 unfoldable pub leadingToFlags : ℕ → ℕ → List ℕ
 leadingToFlags c f =
-    if eqb f 1 then control c 101 0 ∷ [] else
-    if eqb f 2 then control c 99 0 ∷ [] else
-    if eqb f 4 then control c 6 0 ∷ [] else
-    if eqb f 5 then control c 101 0 ∷ control c 6 0 ∷ [] else
-    if eqb f 6 then control c 99 0 ∷ control c 6 0 ∷ [] else
-    if eqb f 12 then control c 6 0 ∷ control c 121 0 ∷ [] else
-    if eqb f 13 then control c 101 0 ∷ control c 6 0 ∷ control c 121 0 ∷ [] else
-    if eqb f 14 then control c 99 0 ∷ control c 6 0 ∷ control c 121 0 ∷ [] else
+    if eqb f 1 then control 0 c 101 0 ∷ [] else
+    if eqb f 2 then control 0 c 99 0 ∷ [] else
+    if eqb f 4 then control 0 c 6 0 ∷ [] else
+    if eqb f 5 then control 0 c 101 0 ∷ control 0 c 6 0 ∷ [] else
+    if eqb f 6 then control 0 c 99 0 ∷ control 0 c 6 0 ∷ [] else
+    if eqb f 12 then control 0 c 6 0 ∷ control 0 c 121 0 ∷ [] else
+    if eqb f 13 then control 0 c 101 0 ∷ control 0 c 6 0 ∷ control 0 c 121 0 ∷ [] else
+    if eqb f 14 then control 0 c 99 0 ∷ control 0 c 6 0 ∷ control 0 c 121 0 ∷ [] else
     []
 
 -- messages on channel c that give its byte k the value x
 unfoldable pub leadingTo : ℕ → ℕ → ℕ → List ℕ
 leadingTo c k x =
-    if eqb k 7 then leadingToFlags c x else if eqb x 0 then [] else control c (controllerOf k) (x - 1) ∷ []
+    if eqb k 7 then leadingToFlags c x else if eqb x 0 then [] else control 0 c (controllerOf k) (x - 1) ∷ []
 
 -- each word of a list has the word form
 unfoldable pub allMessages : List ℕ → Bool
@@ -107,11 +108,17 @@ abbrev pub isGiven : Outcome (List ℕ) → Bool
 isGiven (given words) = true
 isGiven (declined n v) = false
 
+-- a record of sixteen channels that is accepted
+pub record Formed (r : Midi1ToMidi2Group) : Type 0 where
+  pub size : length (r .state) ≡ 16
+  pub allowed : recordAllowed r ≡ true
+
 -- of a new record: the values that a byte may have are exactly those that are accepted
 pub record ExactlyAccepted (new : Midi1ToMidi2Group) : Type 0 where
   -- whatever calls it has had, each byte of each channel has a value that is accepted
   pub kept : (calls : List TranslatorCall) (c k : ℕ) → c < 16 → k < 8
       → byteAllowed k (byteOf (stateOn (translatorAfterAll new calls) c) k) ≡ true
+  pub formed : (calls : List TranslatorCall) → Formed (translatorAfterAll new calls)
   -- so that no call is declined but one whose word is no message
   pub answered : (calls : List TranslatorCall) (call : TranslatorCall) → ofMessage call ≡ true
       → isGiven (answerTo (translatorAfterAll new calls) call) ≡ true

@@ -8,6 +8,7 @@ use native.Mathlib.Nat.{eq-or-lt-of-le, le-of-suc-le-suc, not-suc-le-zero}
 use native.Mathlib.Omega.{arith}
 use lib.Dec.{ltb, eqb}
 use borrow.Author.Tests.{eqb-true}
+use Rattle.ump.specs.Choice.{if_then_else_}
 use Rattle.translate_state.specs.State.{pendingIn, nullAfterIn, withKind, withPending, withoutPending, withNullAfter, withoutNullAfter, flagsAllowed}
 use Rattle.translate_state.proofs.Allowed.{both}
 
@@ -73,3 +74,12 @@ reset-pending f a p = carried pendingIn withNullAfter refl f a p
 
 pub reset-at-once : (f : ℕ) → flagsAllowed f ≡ true → pendingIn f ≡ false → flagsAllowed (withoutNullAfter f) ≡ true
 reset-at-once f a p = carried (λ g. not (pendingIn g)) withoutNullAfter refl f a (rw p)
+
+-- once the pending entry is sent, the flags are a kind alone
+abbrev pub sentFlags : ℕ → ℕ
+sentFlags f = if pendingIn f then (if nullAfterIn f then withoutNullAfter (withoutPending f) else withoutPending f) else f
+
+pub kind-alone : (f : ℕ) → flagsAllowed f ≡ true → sentFlags f / 4 ≡ 0
+kind-alone f a =
+    let test : ℕ → Bool = λ g. not (flagsAllowed g) || (not true || eqb (sentFlags g / 4) 0) in
+    eqb-true (sentFlags f / 4) 0 (modus (flagsAllowed f) true (eqb (sentFlags f / 4) 0) (at test 16 refl f (flags-lt f a)) a refl)

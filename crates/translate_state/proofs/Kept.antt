@@ -2,14 +2,14 @@
 -- Assumes nothing.
 use mathlib.Core.Path.{_≡_}
 use mathlib.Core.Bool.{true, false}
-use Prim.Native.Nat.{ℕ, _≤_}
+use Prim.Native.Nat.{ℕ, _/_, _≤_}
 use native.Mathlib.Omega.{arith}
 use lib.Dec.{ltb, eqb}
 use Rattle.ump.proofs.Cases.{by-test, of-both}
 use Rattle.translate_state.specs.declared.ChannelState.{ChannelState}
 use Rattle.translate_state.specs.State.{held, pendingIn, nullAfterIn, withKind, withPending, withoutPending, withNullAfter, withoutNullAfter, withHeldRpn, withHeldNrpn, withBank, withEntry, selectionNulled, flagsAllowed, pendingSent, numberHeld, kindOfNumber, selected, entryHeld, completed, controllersReset, bankMsbHeld, bankLsbHeld, bankSent}
 use Rattle.translate_state.proofs.Allowed.{Allowed}
-use Rattle.translate_state.proofs.Flags.{kind-1, kind-2, now-pending, no-longer-pending, sent-then-null, reset-pending, reset-at-once}
+use Rattle.translate_state.proofs.Flags.{sentFlags, kind-alone, kind-1, kind-2, now-pending, no-longer-pending, sent-then-null, reset-pending, reset-at-once}
 
 held-le : (v : ℕ) → held v ≤ 128
 held-le v = omega arith
@@ -62,6 +62,15 @@ module _ (s : ChannelState) (a : Allowed s) where
       (λ n. rw n (nulled-kept (withoutPending (s .flags)) (sent-then-null (s .flags) (a .flags-of))))
       (λ n. rw n (entry-kept (s .«data_msb») (withoutPending (s .flags)) (a .data-msb) (no-longer-pending (s .flags) (a .flags-of) n))))
       a
+
+  -- and nothing is pending
+  pub sent-kind : pendingSent s .flags / 4 ≡ 0
+  unfolding pendingSent
+  sent-kind =
+      let alone : sentFlags (s .flags) / 4 ≡ 0 = kind-alone (s .flags) (a .flags-of) in
+      by-test (pendingIn (s .flags))
+      (λ p. by-test (nullAfterIn (s .flags)) (λ n. rw (p, n) (rw (p, n) at alone)) (λ n. rw (p, n) (rw (p, n) at alone)))
+      (λ p. rw p (rw p at alone))
 
   pub reset-kept : Allowed (controllersReset s)
   unfolding controllersReset

@@ -1,0 +1,547 @@
+-- The entries of parameter numbers: what lists of messages on one channel give.
+-- Assumes nothing.
+use mathlib.Core.Path.{_≡_, refl, sym, ap, _∙_}
+use mathlib.Core.Bool.{Bool, true, false, true≢false}
+use mathlib.Core.List.{List, [], _∷_, _++_, map}
+use Prim.Native.Nat.{ℕ, _+_, _-_, _*_, _/_, _^_, _<_, _≤_}
+use native.Mathlib.Nat.{add-zero, mod-eq-of-lt}
+use native.Mathlib.Omega.{arith}
+use lib.Dec.{eqb, ltb}
+use borrow.Author.Tests.{eqb-true, ne-eqb, le-ltb}
+use Rattle.ump.specs.Choice.{if_then_else_}
+use Rattle.ump.specs.Outcome.{given}
+use Rattle.ump.proofs.Cases.{by-test}
+use Rattle.translate_state.specs.declared.ChannelState.{ChannelState}
+use Rattle.translate_state.specs.declared.Midi1ToMidi2Group.{Midi1ToMidi2Group}
+use Rattle.translate_state.specs.State.{held, channelState, pendingSent, selected, mcmSelected, entryHeld, completed, controllersReset, stateOn, flagsAllowed}
+use Rattle.translate.specs.declared.Translation.{Translation}
+use Rattle.translate.specs.declared.Translation.the-variants.{Words, Nothing, OutOfRange}
+use Rattle.translate.specs.Translate.{translationRead, firstWord, controllerData, controllerNumbered, controller, pendingWords, channelStep, enteredAfter, lsbEntered, passedOn, controlChanged, messageTranslated, recordAfter, flushedRecord}
+use Rattle.translate.specs.Lists.{translate-words, flush, translatorAfterAll, wordsFrom, control, Formed}
+use Rattle.translate.specs.Rules.{recordAfterAll, controlWords, registeredWords, assignableWords, NullNumber, McmNumber, EntryRules, McmRules}
+use Rattle.translate_state.proofs.Kept.{sent-kept, sent-kind}
+use Rattle.translate.proofs.Always.{on-allowed, after-formed, always-formed}
+use Rattle.translate.proofs.Reached.{Each, nothing, _and_, at}
+use Rattle.translate.proofs.Passing.{some, back, with-bank, held-0, held-32}
+use Rattle.translate.proofs.Messages.{fits-B, state-of, Gives, ended, message, said, silent, said-last, fits-C, flush-answer, flush-state}
+
+-- the kind of parameter that flags select, with nothing pending
+data Kind : Type 0 where
+  none : Kind
+  rpn : Kind
+  nrpn : Kind
+
+abbrev code : Kind → ℕ
+code none = 0
+code rpn = 1
+code nrpn = 2
+
+-- the same with an entry pending, and with a reset noted besides
+abbrev code-pending : Kind → ℕ
+code-pending none = 4
+code-pending rpn = 5
+code-pending nrpn = 6
+
+abbrev code-reset : Kind → ℕ
+code-reset none = 12
+code-reset rpn = 13
+code-reset nrpn = 14
+
+-- flags that are a kind alone
+record KindOf (f : ℕ) : Type 0 where
+  kind : Kind
+  is : f ≡ code kind
+
+kinds : Each (λ f. flagsAllowed f ≡ true → KindOf f) 4
+kinds =
+    nothing
+    and (λ a. record { kind = none; is = refl })
+    and (λ a. record { kind = rpn; is = refl })
+    and (λ a. record { kind = nrpn; is = refl })
+    and (λ a. absurd (true≢false (sym a)))
+
+entered : (x : Translation) (g c : ℕ) (s : ChannelState) → mcmSelected s ≡ false → enteredAfter x g c s ≡ channelStep s x
+unfolding enteredAfter
+entered (Words a b) g c s e = refl
+entered Nothing g c s e = rw e
+entered OutOfRange g c s e = refl
+
+-- the numbers of a channel: registered, and non-registered
+module _ (rm rl nm nl : ℕ) where
+  abbrev on : ℕ → ℕ → ℕ → ℕ → ChannelState
+  on d bm bl f = channelState rm rl nm nl d bm bl f
+
+  abbrev sent : Kind → ℕ → ℕ → ℕ → Translation
+  sent none g c v = Nothing
+  sent rpn g c v = controllerNumbered g c 0x2 rm rl v
+  sent nrpn g c v = controllerNumbered g c 0x3 nm nl v
+
+  abbrev mcmOf : Kind → Bool
+  mcmOf none = false
+  mcmOf rpn = if eqb rm (held 0) then eqb rl (held 6) else false
+  mcmOf nrpn = false
+
+null-is-no-mcm : (k : Kind) → mcmOf 128 128 128 128 k ≡ false
+null-is-no-mcm none = refl
+null-is-no-mcm rpn = refl
+null-is-no-mcm nrpn = refl
+
+null-sends-none : (k : Kind) (g c v : ℕ) → sent 128 128 128 128 k g c v ≡ Nothing
+unfolding controllerNumbered
+null-sends-none none g c v = refl
+null-sends-none rpn g c v = refl
+null-sends-none nrpn g c v = refl
+
+-- both numbers null
+abbrev nulled : ℕ → ℕ → ℕ → ℕ → ChannelState
+nulled d bm bl f = on 128 128 128 128 d bm bl f
+
+module _ (rm rl nm nl bm bl : ℕ) where
+  abbrev at-flags : ℕ → ℕ → ChannelState
+  at-flags d f = on rm rl nm nl d bm bl f
+
+  abbrev words-of : Kind → ℕ → ℕ → ℕ → Translation
+  words-of = sent rm rl nm nl
+
+  mcm-of : (k : Kind) (d : ℕ) → mcmSelected (at-flags d (code-pending k)) ≡ mcmOf rm rl nm nl k
+  unfolding mcmSelected
+  mcm-of none d = refl
+  mcm-of rpn d = refl
+  mcm-of nrpn d = refl
+
+  module _ (g c : ℕ) where
+    -- an entry that is pending, a reset noted or not
+    pending-words : (k : Kind) (x : ℕ) → pendingWords g c (at-flags (x + 1) (code-pending k)) ≡ words-of k g c (x * 2 ^ 7)
+    unfolding pendingWords controller
+    pending-words none x = rw (some x)
+    pending-words rpn x = rw (some x, back x, add-zero)
+    pending-words nrpn x = rw (some x, back x, add-zero)
+
+    reset-words : (k : Kind) (x : ℕ) → pendingWords g c (at-flags (x + 1) (code-reset k)) ≡ words-of k g c (x * 2 ^ 7)
+    unfolding pendingWords controller
+    reset-words none x = rw (some x)
+    reset-words rpn x = rw (some x, back x, add-zero)
+    reset-words nrpn x = rw (some x, back x, add-zero)
+
+    none-pending : (k : Kind) (d : ℕ) → pendingWords g c (at-flags d (code k)) ≡ Nothing
+    unfolding pendingWords
+    none-pending none d = refl
+    none-pending rpn d = refl
+    none-pending nrpn d = refl
+
+  pending-sent : (k : Kind) (d : ℕ) → pendingSent (at-flags d (code-pending k)) ≡ at-flags d (code k)
+  unfolding pendingSent
+  pending-sent none d = refl
+  pending-sent rpn d = refl
+  pending-sent nrpn d = refl
+
+  reset-sent : (k : Kind) (d : ℕ) → pendingSent (at-flags d (code-reset k)) ≡ nulled d bm bl (code k)
+  unfolding pendingSent
+  reset-sent none d = refl
+  reset-sent rpn d = refl
+  reset-sent nrpn d = refl
+
+  none-sent : (k : Kind) (d : ℕ) → pendingSent (at-flags d (code k)) ≡ at-flags d (code k)
+  unfolding pendingSent
+  none-sent none d = refl
+  none-sent rpn d = refl
+  none-sent nrpn d = refl
+
+  entry-held : (k : Kind) (d x : ℕ) → x < 128 → entryHeld (at-flags d (code k)) x ≡ at-flags (x + 1) (code-pending k)
+  unfolding entryHeld
+  entry-held none d x h = rw (mod-eq-of-lt h)
+  entry-held rpn d x h = rw (mod-eq-of-lt h)
+  entry-held nrpn d x h = rw (mod-eq-of-lt h)
+
+  module _ (g c : ℕ) where
+    -- 6 with nothing pending, with an entry pending, and with a reset noted
+    first-6 : (k : Kind) (d x : ℕ) → x < 128 → mcmOf rm rl nm nl k ≡ false
+        → controlChanged g c (at-flags d (code k)) 6 x ≡ channelStep (at-flags (x + 1) (code-pending k)) Nothing
+    unfolding controlChanged
+    first-6 k d x h m =
+        rw (none-pending g c k d, none-sent k d, entry-held k d x h) (entered Nothing g c _ (mcm-of k (x + 1) ∙ m))
+
+    next-6 : (k : Kind) (x z : ℕ) → z < 128 → mcmOf rm rl nm nl k ≡ false
+        → controlChanged g c (at-flags (x + 1) (code-pending k)) 6 z ≡ channelStep (at-flags (z + 1) (code-pending k)) (words-of k g c (x * 2 ^ 7))
+    unfolding controlChanged
+    next-6 k x z h m =
+        rw (pending-words g c k x, pending-sent k (x + 1), entry-held k (x + 1) z h) (entered (words-of k g c (x * 2 ^ 7)) g c _ (mcm-of k (z + 1) ∙ m))
+
+    -- 38 with an entry pending, after it, with no 6 before it, and with a reset noted
+    first-38 : (k : Kind) (x y : ℕ)
+        → controlChanged g c (at-flags (x + 1) (code-pending k)) 38 y ≡ channelStep (at-flags (x + 1) (code k)) (words-of k g c (x * 2 ^ 7 + y))
+    unfolding controlChanged lsbEntered completed controller
+    first-38 none x y = rw (some x)
+    first-38 rpn x y = rw (some x, back x)
+    first-38 nrpn x y = rw (some x, back x)
+
+    next-38 : (k : Kind) (x y : ℕ)
+        → controlChanged g c (at-flags (x + 1) (code k)) 38 y ≡ channelStep (at-flags (x + 1) (code k)) (words-of k g c (x * 2 ^ 7 + y))
+    unfolding controlChanged lsbEntered completed controller
+    next-38 none x y = rw (some x)
+    next-38 rpn x y = rw (some x, back x)
+    next-38 nrpn x y = rw (some x, back x)
+
+    none-38 : (k : Kind) (y : ℕ) → controlChanged g c (at-flags 0 (code k)) 38 y ≡ channelStep (at-flags 0 (code k)) Nothing
+    unfolding controlChanged lsbEntered
+    none-38 none y = refl
+    none-38 rpn y = refl
+    none-38 nrpn y = refl
+
+    reset-38 : (k : Kind) (x y : ℕ)
+        → controlChanged g c (at-flags (x + 1) (code-reset k)) 38 y ≡ channelStep (nulled (x + 1) bm bl (code k)) (words-of k g c (x * 2 ^ 7))
+    unfolding controlChanged lsbEntered pendingSent pendingWords controller
+    reset-38 none x y = rw (some x)
+    reset-38 rpn x y = rw (some x, back x, add-zero)
+    reset-38 nrpn x y = rw (some x, back x, add-zero)
+
+    -- 121
+    reset-pending : (k : Kind) (d v : ℕ)
+        → controlChanged g c (at-flags d (code-pending k)) 121 v ≡ channelStep (at-flags d (code-reset k)) (passedOn g c 0xB 121 v)
+    unfolding controlChanged controllersReset
+    reset-pending none d v = refl
+    reset-pending rpn d v = refl
+    reset-pending nrpn d v = refl
+
+    reset-at-once : (k : Kind) (d v : ℕ)
+        → controlChanged g c (at-flags d (code k)) 121 v ≡ channelStep (nulled d bm bl (code k)) (passedOn g c 0xB 121 v)
+    unfolding controlChanged controllersReset
+    reset-at-once none d v = refl
+    reset-at-once rpn d v = refl
+    reset-at-once nrpn d v = refl
+
+-- 98 to 101
+number : (g c : ℕ) (s : ChannelState) (n v : ℕ) → 98 ≤ n → n ≤ 101
+    → controlChanged g c s n v ≡ channelStep (selected (pendingSent s) n v) (pendingWords g c s)
+unfolding controlChanged
+number g c s n v l h =
+    rw (
+      ne-eqb n 0 (λ e. omega arith),
+      ne-eqb n 6 (λ e. omega arith),
+      ne-eqb n 32 (λ e. omega arith),
+      ne-eqb n 38 (λ e. omega arith),
+      ne-eqb n 121 (λ e. omega arith),
+      le-ltb n 98 l,
+      le-ltb 101 n h,
+    )
+
+-- 6 with a reset noted
+reset-6 : (rm rl nm nl bm bl g c : ℕ) (k : Kind) (x z : ℕ) → z < 128
+    → controlChanged g c (on rm rl nm nl (x + 1) bm bl (code-reset k)) 6 z
+    ≡ channelStep (nulled (z + 1) bm bl (code-pending k)) (sent rm rl nm nl k g c (x * 2 ^ 7))
+unfolding controlChanged
+reset-6 rm rl nm nl bm bl g c k x z h =
+    rw (reset-words rm rl nm nl bm bl g c k x, reset-sent rm rl nm nl bm bl k (x + 1), entry-held 128 128 128 128 bm bl k (x + 1) z h)
+    (entered (sent rm rl nm nl k g c (x * 2 ^ 7)) g c _ (mcm-of 128 128 128 128 bm bl k (z + 1) ∙ null-is-no-mcm k))
+
+all-formed : (r : Midi1ToMidi2Group) → Formed r → (ws : List ℕ) → Formed (recordAfterAll r ws)
+all-formed r f ws = always-formed r f (map translate-words ws)
+
+-- nothing from a null number
+module _ (g c : ℕ) (hg : g < 16) (hc : c < 16) (k : Kind) (bm bl : ℕ) where
+  null-38 : (z w : ℕ) → w < 128 → Gives c (nulled (z + 1) bm bl (code-pending k)) (control g c 38 w ∷ []) [] (nulled (z + 1) bm bl (code k))
+  null-38 z w h =
+      said-last g c hg hc 38 w (omega arith) h _ [] (first-38 128 128 128 128 bm bl g c k z w) (ap translationRead (null-sends-none k g c (z * 2 ^ 7 + w))) (ended c _)
+
+  null-entry : (d z w : ℕ) → z < 128 → w < 128
+      → Gives c (nulled d bm bl (code k)) (control g c 6 z ∷ control g c 38 w ∷ []) [] (nulled (z + 1) bm bl (code k))
+  null-entry d z w hz hw =
+      silent g c hg hc 6 z (omega arith) hz (first-6 128 128 128 128 bm bl g c k d z hz (null-is-no-mcm k)) (null-38 z w hw)
+
+-- a number that a second message completes, and its entries
+module _ (g c : ℕ) (hg : g < 16) (hc : c < 16) (k : Kind) (a1 a2 a3 a4 rm rl nm nl n2 v2 : ℕ) (hn : n2 < 128) (hv : v2 < 128)
+    (select : (d bm bl : ℕ) → controlChanged g c (on a1 a2 a3 a4 d bm bl (code k)) n2 v2 ≡ channelStep (on rm rl nm nl 0 bm bl (code k)) Nothing)
+    (no-mcm : mcmOf rm rl nm nl k ≡ false)
+    (entry : ℕ → ℕ → List ℕ)
+    (read : (h v : ℕ) → translationRead (sent rm rl nm nl k h c v) ≡ given (entry h v))
+  where
+    abbrev waiting : ℕ → ℕ → ℕ → ℕ → ChannelState
+    waiting x bm bl f = on rm rl nm nl (x + 1) bm bl f
+
+    hold : {ws out : List ℕ} {t : ChannelState} (bm bl x : ℕ) → x < 128 → Gives c (waiting x bm bl (code-pending k)) ws out t
+        → Gives c (on a1 a2 a3 a4 0 bm bl (code k)) (control g c n2 v2 ∷ control g c 6 x ∷ ws) out t
+    hold bm bl x h rest =
+        silent g c hg hc n2 v2 hn hv (select 0 bm bl)
+        (silent g c hg hc 6 x (omega arith) h (first-6 rm rl nm nl bm bl g c k 0 x h no-mcm) rest)
+
+    read-pending : (bm bl h x : ℕ) → translationRead (pendingWords h c (waiting x bm bl (code-pending k))) ≡ given (entry h (x * 2 ^ 7))
+    read-pending bm bl h x = ap translationRead (pending-words rm rl nm nl bm bl h c k x) ∙ read h (x * 2 ^ 7)
+
+    read-reset : (bm bl h x : ℕ) → translationRead (pendingWords h c (waiting x bm bl (code-reset k))) ≡ given (entry h (x * 2 ^ 7))
+    read-reset bm bl h x = ap translationRead (reset-words rm rl nm nl bm bl h c k x) ∙ read h (x * 2 ^ 7)
+
+    -- 38 after 6
+    complete : (bm bl x y : ℕ) → y < 128 → Gives c (waiting x bm bl (code-pending k)) (control g c 38 y ∷ []) (entry g (x * 2 ^ 7 + y)) (waiting x bm bl (code k))
+    complete bm bl x y h =
+        said-last g c hg hc 38 y (omega arith) h _ (entry g (x * 2 ^ 7 + y)) (first-38 rm rl nm nl bm bl g c k x y) (read g (x * 2 ^ 7 + y)) (ended c _)
+
+    -- 121 after 6
+    reset-after : {ws out : List ℕ} {t : ChannelState} (bm bl x v : ℕ) → x < 128 → v < 128 → Gives c (waiting x bm bl (code-reset k)) ws out t
+        → Gives c (on a1 a2 a3 a4 0 bm bl (code k)) (control g c n2 v2 ∷ control g c 6 x ∷ control g c 121 v ∷ ws) (controlWords g c 121 v ++ out) t
+    reset-after bm bl x v hx hv rest =
+        hold bm bl x hx
+        (said g c hg hc 121 v (omega arith) hv _ (controlWords g c 121 v) (reset-pending rm rl nm nl bm bl g c k (x + 1) v) refl rest)
+
+    module _ (r : Midi1ToMidi2Group) (f : Formed r) (first bm bl : ℕ) (start : stateOn (recordAfter r first) c ≡ on a1 a2 a3 a4 0 bm bl (code k)) where
+      after-first : Formed (recordAfter r first)
+      after-first = after-formed r f (translate-words first)
+
+      -- the words and the state of a list from there
+      words-from : {ws out : List ℕ} {t : ChannelState} → Gives c (on a1 a2 a3 a4 0 bm bl (code k)) ws out t → wordsFrom (recordAfter r first) ws ≡ out
+      words-from all = all .gives (recordAfter r first) after-first start
+
+      entry-rules : EntryRules r g c first (control g c n2 v2) entry
+      unfolding translatorAfterAll
+      entry-rules =
+          record {
+            completed-by-38 = λ x y hx hy. words-from (hold bm bl x hx (complete bm bl x y hy));
+            again-by-38 =
+                λ x y z hx hy hz.
+                words-from
+                (hold bm bl x hx
+                (said g c hg hc 38 y (omega arith) hy _ (entry g (x * 2 ^ 7 + y)) (first-38 rm rl nm nl bm bl g c k x y) (read g (x * 2 ^ 7 + y))
+                (said-last g c hg hc 38 z (omega arith) hz _ (entry g (x * 2 ^ 7 + z)) (next-38 rm rl nm nl bm bl g c k x z) (read g (x * 2 ^ 7 + z)) (ended c _))));
+            no-value =
+                λ y hy.
+                words-from
+                (silent g c hg hc n2 v2 hn hv (select 0 bm bl)
+                (silent g c hg hc 38 y (omega arith) hy (none-38 rm rl nm nl bm bl g c k y) (ended c _)));
+            ended-by-6 =
+                λ x z w hx hz hw.
+                words-from
+                (hold bm bl x hx
+                (said g c hg hc 6 z (omega arith) hz _ (entry g (x * 2 ^ 7)) (next-6 rm rl nm nl bm bl g c k x z hz no-mcm) (read g (x * 2 ^ 7))
+                (complete bm bl z w hw)));
+            ended-by-number =
+                λ x n v hx l h hv.
+                words-from
+                (hold bm bl x hx
+                (said-last g c hg hc n v (omega arith) hv _ (entry g (x * 2 ^ 7)) (number g c (waiting x bm bl (code-pending k)) n v l h) (read-pending bm bl g x) (ended c _)));
+            flushed =
+                λ h x hh hx.
+                let q = recordAfterAll r (first ∷ control g c n2 v2 ∷ control g c 6 x ∷ []) in
+                let e : stateOn q c ≡ waiting x bm bl (code-pending k) = hold bm bl x hx (ended c _) .leaves (recordAfter r first) after-first start in
+                flush-answer q (all-formed r f (first ∷ control g c n2 v2 ∷ control g c 6 x ∷ [])) h c hh hc ∙ rw e (read-pending bm bl h x);
+            flushed-once =
+                λ h x hh hx.
+                let q = recordAfterAll r (first ∷ control g c n2 v2 ∷ control g c 6 x ∷ []) in
+                let e : stateOn q c ≡ waiting x bm bl (code-pending k) = hold bm bl x hx (ended c _) .leaves (recordAfter r first) after-first start in
+                let o : Formed q = all-formed r f (first ∷ control g c n2 v2 ∷ control g c 6 x ∷ []) in
+                flush-answer (flushedRecord q h c) (after-formed q o (flush h c)) h c hh hc
+                ∙ rw (flush-state q o h c hh hc, e, pending-sent rm rl nm nl bm bl k (x + 1), none-pending rm rl nm nl bm bl h c k (x + 1));
+            reset-then-38 =
+                λ x v y z w hx hv hy hz hw.
+                words-from
+                (reset-after bm bl x v hx hv
+                (said-last g c hg hc 38 y (omega arith) hy _ (entry g (x * 2 ^ 7)) (reset-38 rm rl nm nl bm bl g c k x y) (read g (x * 2 ^ 7))
+                (null-entry g c hg hc k bm bl (x + 1) z w hz hw)));
+            reset-then-6 =
+                λ x v z w hx hv hz hw.
+                words-from
+                (reset-after bm bl x v hx hv
+                (said-last g c hg hc 6 z (omega arith) hz _ (entry g (x * 2 ^ 7)) (reset-6 rm rl nm nl bm bl g c k x z hz) (read g (x * 2 ^ 7))
+                (null-38 g c hg hc k bm bl z w hw)));
+            reset-then-number =
+                λ x v n u hx hv l h hu.
+                words-from
+                (reset-after bm bl x v hx hv
+                (said-last g c hg hc n u (omega arith) hu _ (entry g (x * 2 ^ 7)) (number g c (waiting x bm bl (code-reset k)) n u l h) (read-reset bm bl g x) (ended c _)));
+            reset-then-flushed =
+                λ h x v hh hx hv.
+                let q = recordAfterAll r (first ∷ control g c n2 v2 ∷ control g c 6 x ∷ control g c 121 v ∷ []) in
+                let e : stateOn q c ≡ waiting x bm bl (code-reset k) = reset-after bm bl x v hx hv (ended c _) .leaves (recordAfter r first) after-first start in
+                flush-answer q (all-formed r f (first ∷ control g c n2 v2 ∷ control g c 6 x ∷ control g c 121 v ∷ [])) h c hh hc ∙ rw e (read-reset bm bl h x);
+            beside-bank =
+                λ b x a p y hb hx ha hp hy.
+                words-from
+                (silent g c hg hc 0 b (omega arith) hb (held-0 g c (on a1 a2 a3 a4 0 bm bl (code k)) b hb)
+                (hold (b + 1) 1 x hx
+                (silent g c hg hc 32 a (omega arith) ha (held-32 g c (waiting x (b + 1) 1 (code-pending k)) a ha)
+                (message g c 0xC p 0 (fits-C g c p hg hc hp) _ (firstWord g 0xC c 0 1 ∷ (p * 2 ^ 24 + (b * 2 ^ 8 + a)) ∷ []) (with-bank g c (waiting x 0 0 (code-pending k)) p b a) refl
+                (complete 0 0 x y hy)))));
+          }
+
+-- the first half of a number, from any state
+module _ (p : ChannelState) (e : p .flags / 4 ≡ 0) where
+  selected-101 : (v : ℕ) → v < 128
+      → selected p 101 v ≡ on (v + 1) (p .«rpn_lsb») (p .«nrpn_msb») (p .«nrpn_lsb») 0 (p .«bank_msb») (p .«bank_lsb») 1
+  unfolding selected
+  selected-101 v h = rw (mod-eq-of-lt h, e)
+
+  selected-100 : (v : ℕ) → v < 128
+      → selected p 100 v ≡ on (p .«rpn_msb») (v + 1) (p .«nrpn_msb») (p .«nrpn_lsb») 0 (p .«bank_msb») (p .«bank_lsb») 1
+  unfolding selected
+  selected-100 v h = rw (mod-eq-of-lt h, e)
+
+  selected-99 : (v : ℕ) → v < 128
+      → selected p 99 v ≡ on (p .«rpn_msb») (p .«rpn_lsb») (v + 1) (p .«nrpn_lsb») 0 (p .«bank_msb») (p .«bank_lsb») 2
+  unfolding selected
+  selected-99 v h = rw (mod-eq-of-lt h, e)
+
+  selected-98 : (v : ℕ) → v < 128
+      → selected p 98 v ≡ on (p .«rpn_msb») (p .«rpn_lsb») (p .«nrpn_msb») (v + 1) 0 (p .«bank_msb») (p .«bank_lsb») 2
+  unfolding selected
+  selected-98 v h = rw (mod-eq-of-lt h, e)
+
+-- the second half, with nothing pending
+module _ (g c rm rl nm nl d bm bl v : ℕ) (h : v < 128) where
+  second-101 : controlChanged g c (on rm rl nm nl d bm bl 1) 101 v ≡ channelStep (on (v + 1) rl nm nl 0 bm bl 1) Nothing
+  unfolding controlChanged selected pendingSent pendingWords
+  second-101 = rw (mod-eq-of-lt h)
+
+  second-100 : controlChanged g c (on rm rl nm nl d bm bl 1) 100 v ≡ channelStep (on rm (v + 1) nm nl 0 bm bl 1) Nothing
+  unfolding controlChanged selected pendingSent pendingWords
+  second-100 = rw (mod-eq-of-lt h)
+
+  second-99 : controlChanged g c (on rm rl nm nl d bm bl 2) 99 v ≡ channelStep (on rm rl (v + 1) nl 0 bm bl 2) Nothing
+  unfolding controlChanged selected pendingSent pendingWords
+  second-99 = rw (mod-eq-of-lt h)
+
+  second-98 : controlChanged g c (on rm rl nm nl d bm bl 2) 98 v ≡ channelStep (on rm rl nm (v + 1) 0 bm bl 2) Nothing
+  unfolding controlChanged selected pendingSent pendingWords
+  second-98 = rw (mod-eq-of-lt h)
+
+-- a number that is not null, and one that is not 0/6
+module _ (m l : ℕ) where
+  not-mcm : (McmNumber m l → ⊥) → (if eqb (m + 1) (held 0) then eqb (l + 1) (held 6) else false) ≡ false
+  not-mcm n =
+      by-test (eqb (m + 1) 1)
+      (λ e.
+      let i : m + 1 ≡ 1 = eqb-true (m + 1) 1 e in
+      rw (e, ne-eqb (l + 1) 7 (λ j. n (omega arith, omega arith))))
+      (λ e. rw e)
+
+  sent-of : (NullNumber m l → ⊥) → (h o c v : ℕ)
+      → controllerNumbered h c o (m + 1) (l + 1) v ≡ Words (firstWord h o c m l) (controllerData o l v)
+  unfolding controllerNumbered
+  sent-of n h o c v =
+      rw (some m, some l, back m, back l)
+      (by-test (eqb (m + 1) 128)
+      (λ e.
+      let i : m + 1 ≡ 128 = eqb-true (m + 1) 128 e in
+      rw (e, ne-eqb (l + 1) 128 (λ j. n (omega arith, omega arith))))
+      (λ e. rw e))
+
+module _ (r : Midi1ToMidi2Group) (f : Formed r) (g c : ℕ) (hg : g < 16) (hc : c < 16) where
+  abbrev before : ChannelState
+  before = pendingSent (stateOn r c)
+
+  alone : before .flags / 4 ≡ 0
+  alone = sent-kind (stateOn r c) (on-allowed r f c hc)
+
+  half : (n v : ℕ) → 98 ≤ n → n ≤ 101 → v < 128 → stateOn (recordAfter r (control g c n v)) c ≡ selected before n v
+  unfolding messageTranslated
+  half n v l h hv =
+      state-of r f g 0xB c n v (fits-B g c n v hg hc (omega arith) hv) ∙ ap (λ q. q .state) (number g c (stateOn r c) n v l h)
+
+  half-101 : (v : ℕ) → v < 128
+      → stateOn (recordAfter r (control g c 101 v)) c ≡ on (v + 1) (before .«rpn_lsb») (before .«nrpn_msb») (before .«nrpn_lsb») 0 (before .«bank_msb») (before .«bank_lsb») 1
+  half-101 v h = half 101 v (omega arith) (omega arith) h ∙ selected-101 before alone v h
+
+  half-100 : (v : ℕ) → v < 128
+      → stateOn (recordAfter r (control g c 100 v)) c ≡ on (before .«rpn_msb») (v + 1) (before .«nrpn_msb») (before .«nrpn_lsb») 0 (before .«bank_msb») (before .«bank_lsb») 1
+  half-100 v h = half 100 v (omega arith) (omega arith) h ∙ selected-100 before alone v h
+
+  half-99 : (v : ℕ) → v < 128
+      → stateOn (recordAfter r (control g c 99 v)) c ≡ on (before .«rpn_msb») (before .«rpn_lsb») (v + 1) (before .«nrpn_lsb») 0 (before .«bank_msb») (before .«bank_lsb») 2
+  half-99 v h = half 99 v (omega arith) (omega arith) h ∙ selected-99 before alone v h
+
+  half-98 : (v : ℕ) → v < 128
+      → stateOn (recordAfter r (control g c 98 v)) c ≡ on (before .«rpn_msb») (before .«rpn_lsb») (before .«nrpn_msb») (v + 1) 0 (before .«bank_msb») (before .«bank_lsb») 2
+  half-98 v h = half 98 v (omega arith) (omega arith) h ∙ selected-98 before alone v h
+
+  module _ (m l : ℕ) (hm : m < 128) (hl : l < 128) where
+    pub registered-entries : (NullNumber m l → ⊥) → (McmNumber m l → ⊥) → EntryRules r g c (control g c 101 m) (control g c 100 l) (registeredWords c m l)
+    registered-entries n o =
+        entry-rules g c hg hc rpn (m + 1) _ _ _ (m + 1) (l + 1) _ _ 100 l (omega arith) hl (λ d bm bl. second-100 g c _ _ _ _ d bm bl l hl) (not-mcm m l o) _
+        (λ h v. rw (sent-of m l n h 0x2 c v)) r f _ _ _ (half-101 m hm)
+
+    pub registered-entries-lsb-first : (NullNumber m l → ⊥) → (McmNumber m l → ⊥) → EntryRules r g c (control g c 100 l) (control g c 101 m) (registeredWords c m l)
+    registered-entries-lsb-first n o =
+        entry-rules g c hg hc rpn _ (l + 1) _ _ (m + 1) (l + 1) _ _ 101 m (omega arith) hm (λ d bm bl. second-101 g c _ _ _ _ d bm bl m hm) (not-mcm m l o) _
+        (λ h v. rw (sent-of m l n h 0x2 c v)) r f _ _ _ (half-100 l hl)
+
+    pub assignable-entries : (NullNumber m l → ⊥) → EntryRules r g c (control g c 99 m) (control g c 98 l) (assignableWords c m l)
+    assignable-entries n =
+        entry-rules g c hg hc nrpn _ _ (m + 1) _ _ _ (m + 1) (l + 1) 98 l (omega arith) hl (λ d bm bl. second-98 g c _ _ _ _ d bm bl l hl) refl _
+        (λ h v. rw (sent-of m l n h 0x3 c v)) r f _ _ _ (half-99 m hm)
+
+    pub assignable-entries-lsb-first : (NullNumber m l → ⊥) → EntryRules r g c (control g c 98 l) (control g c 99 m) (assignableWords c m l)
+    assignable-entries-lsb-first n =
+        entry-rules g c hg hc nrpn _ _ _ (l + 1) _ _ (m + 1) (l + 1) 99 m (omega arith) hm (λ d bm bl. second-99 g c _ _ _ _ d bm bl m hm) refl _
+        (λ h v. rw (sent-of m l n h 0x3 c v)) r f _ _ _ (half-98 l hl)
+
+  pub registered-null-entries : EntryRules r g c (control g c 101 0x7F) (control g c 100 0x7F) (λ h v. [])
+  unfolding controllerNumbered
+  registered-null-entries =
+      entry-rules g c hg hc rpn 128 _ _ _ 128 128 _ _ 100 0x7F (omega arith) (omega arith) (λ d bm bl. second-100 g c _ _ _ _ d bm bl 0x7F (omega arith)) refl _
+      (λ h v. refl) r f _ _ _ (half-101 0x7F (omega arith))
+
+  pub assignable-null-entries : EntryRules r g c (control g c 99 0x7F) (control g c 98 0x7F) (λ h v. [])
+  unfolding controllerNumbered
+  assignable-null-entries =
+      entry-rules g c hg hc nrpn _ _ 128 _ _ _ 128 128 98 0x7F (omega arith) (omega arith) (λ d bm bl. second-98 g c _ _ _ _ d bm bl 0x7F (omega arith)) refl _
+      (λ h v. refl) r f _ _ _ (half-99 0x7F (omega arith))
+
+  -- RPN 0/6, with nothing pending
+  abbrev mcm-state : ℕ → ChannelState
+  mcm-state d = on 1 7 (before .«nrpn_msb») (before .«nrpn_lsb») d (before .«bank_msb») (before .«bank_lsb») 1
+
+  mcm-6 : (d x : ℕ) → x < 128 → controlChanged g c (mcm-state d) 6 x ≡ channelStep (mcm-state (x + 1)) (controllerNumbered g c 0x2 1 7 (x * 2 ^ 7))
+  unfolding controlChanged pendingWords pendingSent entryHeld enteredAfter mcmSelected controller
+  mcm-6 d x h = rw (mod-eq-of-lt h, some x, back x, add-zero)
+
+  mcm-read : (v : ℕ) → translationRead (controllerNumbered g c 0x2 1 7 v) ≡ given (registeredWords c 0 6 g v)
+  unfolding controllerNumbered
+  mcm-read v = refl
+
+  then-6 : {ws out : List ℕ} {t : ChannelState} (d x : ℕ) → x < 128 → Gives c (mcm-state (x + 1)) ws out t
+      → Gives c (mcm-state d) (control g c 6 x ∷ ws) (registeredWords c 0 6 g (x * 2 ^ 7) ++ out) t
+  then-6 d x h rest = said g c hg hc 6 x (omega arith) h _ (registeredWords c 0 6 g (x * 2 ^ 7)) (mcm-6 d x h) (mcm-read (x * 2 ^ 7)) rest
+
+  module _ (first n2 v2 : ℕ) (hn : n2 < 128) (hv : v2 < 128) (s : ChannelState) (start : stateOn (recordAfter r first) c ≡ s)
+      (select : controlChanged g c s n2 v2 ≡ channelStep (mcm-state 0) Nothing)
+    where
+      mcm-list : {ws out : List ℕ} {t : ChannelState} → Gives c (mcm-state 0) ws out t → Gives c s (control g c n2 v2 ∷ ws) out t
+      mcm-list rest = silent g c hg hc n2 v2 hn hv select rest
+
+      mcm-rules : McmRules r g c first (control g c n2 v2)
+      unfolding translatorAfterAll
+      mcm-rules =
+          let o = after-formed r f (translate-words first) in
+          record {
+            sent-at-once =
+                λ x z hx hz. mcm-list (then-6 0 x hx (then-6 (x + 1) z hz (ended c _))) .gives (recordAfter r first) o start;
+            not-pending =
+                λ h x hh hx.
+                let q = recordAfterAll r (first ∷ control g c n2 v2 ∷ control g c 6 x ∷ []) in
+                let e : stateOn q c ≡ mcm-state (x + 1) = mcm-list (then-6 0 x hx (ended c _)) .leaves (recordAfter r first) o start in
+                flush-answer q (all-formed r f (first ∷ control g c n2 v2 ∷ control g c 6 x ∷ [])) h c hh hc
+                ∙ rw (e, none-pending 1 7 (before .«nrpn_msb») (before .«nrpn_lsb») (before .«bank_msb») (before .«bank_lsb») h c rpn (x + 1));
+          }
+
+  pub mcm-entries : McmRules r g c (control g c 101 0) (control g c 100 6)
+  mcm-entries =
+      mcm-rules (control g c 101 0) 100 6 (omega arith) (omega arith) _ (half-101 0 (omega arith)) (second-100 g c _ _ _ _ _ _ _ 6 (omega arith))
+
+  pub mcm-entries-lsb-first : McmRules r g c (control g c 100 6) (control g c 101 0)
+  mcm-entries-lsb-first =
+      mcm-rules (control g c 100 6) 101 0 (omega arith) (omega arith) _ (half-100 6 (omega arith)) (second-101 g c _ _ _ _ _ _ _ 0 (omega arith))
+
+  -- 121 after `flush`
+  null-at-once : (k : Kind) (v x y : ℕ) → v < 128 → x < 128 → y < 128 → before .flags ≡ code k
+      → Gives c before (control g c 121 v ∷ control g c 6 x ∷ control g c 38 y ∷ []) (controlWords g c 121 v) (nulled (x + 1) (before .«bank_msb») (before .«bank_lsb») (code k))
+  null-at-once k v x y hv hx hy e =
+      let i : before ≡ on (before .«rpn_msb») (before .«rpn_lsb») (before .«nrpn_msb») (before .«nrpn_lsb») (before .«data_msb») (before .«bank_msb») (before .«bank_lsb») (code k) =
+      λ j.
+      on (before .«rpn_msb») (before .«rpn_lsb») (before .«nrpn_msb») (before .«nrpn_lsb») (before .«data_msb») (before .«bank_msb») (before .«bank_lsb») (e j) in
+      said-last g c hg hc 121 v (omega arith) hv _ (controlWords g c 121 v)
+      (ap (λ q. controlChanged g c q 121 v) i ∙ reset-at-once _ _ _ _ _ _ g c k _ v) refl
+      (null-entry g c hg hc k (before .«bank_msb») (before .«bank_lsb») (before .«data_msb») x y hx hy)
+
+  pub null-after-flush : (h v x y : ℕ) → h < 16 → v < 128 → x < 128 → y < 128
+      → wordsFrom (flushedRecord r h c) (control g c 121 v ∷ control g c 6 x ∷ control g c 38 y ∷ []) ≡ controlWords g c 121 v
+  null-after-flush h v x y hh hv hx hy =
+      let a = sent-kept (stateOn r c) (on-allowed r f c hc) .flags-of in
+      let k : KindOf (before .flags) = at kinds (before .flags) (omega (arith, alone)) a in
+      null-at-once (k .kind) v x y hv hx hy (k .is) .gives (flushedRecord r h c) (after-formed r f (flush h c)) (flush-state r f h c hh hc)

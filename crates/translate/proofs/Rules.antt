@@ -1,0 +1,26 @@
+-- The rules over lists of messages hold of the definitions: what `translate_words` promises.
+-- Assumes nothing.
+use Rattle.translate_state.specs.declared.Midi1ToMidi2Group.{Midi1ToMidi2Group}
+use Rattle.translate.specs.Lists.{Formed}
+use Rattle.translate.specs.Rules.{TranslatedByRules}
+use Rattle.translate.proofs.Entries.{registered-entries, registered-entries-lsb-first, assignable-entries, assignable-entries-lsb-first, registered-null-entries, assignable-null-entries, mcm-entries, mcm-entries-lsb-first, null-after-flush}
+use Rattle.translate.proofs.Passing.{passing-rules, bank-rules, others-kept, others-kept-flushed, same-record}
+
+pub translated-by-rules : (r : Midi1ToMidi2Group) → Formed r → TranslatedByRules r
+translated-by-rules r f =
+    record {
+      passing = λ g c hg hc. passing-rules r f g c hg hc;
+      banks = λ g c hg hc. bank-rules r f g c hg hc;
+      registered = λ g c m l hg hc hm hl n o. registered-entries r f g c hg hc m l hm hl n o;
+      registered-lsb-first = λ g c m l hg hc hm hl n o. registered-entries-lsb-first r f g c hg hc m l hm hl n o;
+      assignable = λ g c m l hg hc hm hl n. assignable-entries r f g c hg hc m l hm hl n;
+      assignable-lsb-first = λ g c m l hg hc hm hl n. assignable-entries-lsb-first r f g c hg hc m l hm hl n;
+      registered-null = λ g c hg hc. registered-null-entries r f g c hg hc;
+      assignable-null = λ g c hg hc. assignable-null-entries r f g c hg hc;
+      mcm = λ g c hg hc. mcm-entries r f g c hg hc;
+      mcm-lsb-first = λ g c hg hc. mcm-entries-lsb-first r f g c hg hc;
+      reset-null = λ g h c v x y hg hh hc hv hx hy. null-after-flush r f g c hg hc h v x y hh hv hx hy;
+      other-channels = λ w d n. others-kept r f w d n;
+      other-channels-flushed = λ h c d n. others-kept-flushed r f h c d n;
+      any-group = λ g h o c a b hg hh ho hc ha hb. same-record r f g h o c a b hg hh ho hc ha hb;
+    }
