@@ -24,7 +24,7 @@ pub affirmed : (b : Bool) → not b ≡ false → b ≡ true
 affirmed true h = refl
 affirmed false h = sym h
 
-and-false : (x : Bool) → x && false ≡ false
+pub and-false : (x : Bool) → x && false ≡ false
 and-false true = refl
 and-false false = refl
 
