@@ -4,9 +4,9 @@ use mathlib.Core.Path.{_≡_, refl, sym, ap, _∙_}
 use mathlib.Core.Bool.{Bool, true, false, _&&_, not}
 use Prim.Native.Nat.{ℕ, zero, suc, _+_, _*_, _/_, _%_, _^_, _<_, _≤_}
 use native.Mathlib.Omega.{arith}
-use lib.Bits.{bitAnd, bitXor, and-block, and-high}
+use lib.Bits.{bitAnd, bitOr, bitXor, and-block, and-high}
 use lib.Dec.{ltb, leb, eqb}
-use borrow.Author.Tests.{leb-true, leb-false, eqb-true, eqb-false, eq-eqb, ne-eqb, ltb-true}
+use borrow.Author.Tests.{leb-true, leb-false, eqb-true, eqb-false, ne-eqb, ltb-true}
 use Rattle.ump.proofs.Cases.{by-test}
 use Rattle.translate_state.specs.State.{heldAllowed, flagsAllowed}
 use Rattle.translate_state.proofs.Allowed.{both, and-false}
@@ -19,7 +19,7 @@ sum-zero a b =
     (λ t. let z : a ≡ 0 = eqb-true a 0 t in let e : a + b ≡ b = omega arith in rw (t, e) refl)
     (λ f. rw f (ne-eqb (a + b) 0 (λ e. eqb-false a 0 f (omega arith))))
 
--- tests of the same number
+-- a number that is 0 for the bytes that are allowed, and for no other
 test-as : (y x : ℕ) → (x ≤ 128 → y ≡ 0) → (128 < x → 0 < y) → eqb y 0 ≡ heldAllowed x
 test-as y x below above =
     by-test (leb x 128)
@@ -64,20 +64,20 @@ alike-same true y h = sym h
 alike-same false true h = h
 alike-same false false h = refl
 
-abbrev flagsSum : ℕ → ℕ
-flagsSum f = f / 16 + bitAnd (bitAnd (bitXor f 4) (bitXor f 4 / 2)) 5
+abbrev flagsOver : ℕ → ℕ
+flagsOver f = bitOr (f / 16) (bitAnd (bitAnd (bitXor f 4) (bitXor f 4 / 2)) 5)
 
 abbrev flagsTest : ℕ → Bool
-flagsTest f = alike (eqb (flagsSum f) 0) (flagsAllowed f) && ltb (flagsSum f) 32
+flagsTest f = alike (eqb (flagsOver f) 0) (flagsAllowed f) && ltb (flagsOver f) 32
 
 flags-test : (f : ℕ) → f < 256 → flagsTest f ≡ true
 flags-test f h = at flagsTest 256 refl f h
 
-pub flags-tested : (f : ℕ) → f < 256 → eqb (flagsSum f) 0 ≡ flagsAllowed f
+pub flags-tested : (f : ℕ) → f < 256 → eqb (flagsOver f) 0 ≡ flagsAllowed f
 flags-tested f h = alike-same _ _ (both _ _ (flags-test f h) .0)
 
-pub flags-small : (f : ℕ) → f < 256 → flagsSum f < 32
-flags-small f h = ltb-true _ _ (both (alike (eqb (flagsSum f) 0) (flagsAllowed f)) (ltb (flagsSum f) 32) (flags-test f h) .1)
+pub flags-small : (f : ℕ) → f < 256 → flagsOver f < 32
+flags-small f h = ltb-true _ _ (both (alike (eqb (flagsOver f) 0) (flagsAllowed f)) (ltb (flagsOver f) 32) (flags-test f h) .1)
 
 -- the bytes of a channel by turns, and its flags
 pub regrouped : (a b c d e f g h : Bool) → ((a && (c && (e && g))) && (b && (d && (f && true)))) && h ≡ a && (b && (c && (d && (e && (f && (g && h))))))

@@ -88,10 +88,10 @@ fn flags_excess(flags: u8) -> u64
 {
     let f = flags as u64;
     let g = f ^ 4;
-    f / 16 + (g & (g / 2) & 5)
+    (f / 16) | (g & (g / 2) & 5)
 }
 
-// 0 for four held values that are allowed. Each has 16 bits of a word, where bit 8 of the value and 127 tells one above 0x80.
+// 0 for four held values that are allowed: each stands in 16 bits of a word, and with 127 added has bit 8 where it is above 0x80.
 fn held_excess(a: u8, b: u8, c: u8, d: u8) -> u64
     ensures is { λ r. ⌜ eqb r 0 ≡ (heldAllowed a && (heldAllowed b && (heldAllowed c && heldAllowed d))) ⌝ }
     ensures small { λ r. ⌜ r < 2 ^ 57 ⌝ }

@@ -4,7 +4,6 @@ use borrow.Author.Needs.{needs}
 use Rattle.translate_state.proofs.ChannelState.excess.Statement.{statement}
 use Rattle.translate_state.proofs.ChannelState.excess.Tie as tie
 use native.Mathlib.Omega.{arith}
-use mathlib.Core.Path.{_∙_}
 use Rattle.translate_state.specs.State.{heldAllowed, flagsAllowed, stateAllowed}
 use Rattle.translate_state.proofs.Excess.{sum-zero, regrouped}
 
