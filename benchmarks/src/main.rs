@@ -80,6 +80,7 @@ fn measure_all(all: &[streams::Stream]) {
     let bent = streams::bent();
     let channels = streams::channels();
     let notes = streams::notes();
+    let messages = streams::messages();
     let bends: Vec<u16> = (0..0x4000).step_by(61).collect();
     let mut pairs = Vec::new();
     for stream in all {
@@ -97,6 +98,12 @@ fn measure_all(all: &[streams::Stream]) {
             rust: Box::new(|| rust::rust_replies(bytes)),
         });
     }
+    pairs.push(Pair {
+        name: "messages translated".into(),
+        calls: messages.len(),
+        ours: Box::new(|| ours::translations(&messages)),
+        rust: Box::new(|| rust::rust_translations(&messages)),
+    });
     pairs.push(Pair {
         name: "offsets read".into(),
         calls: channels.len(),
@@ -164,8 +171,18 @@ fn once(side: &str, bytes: &[u8]) -> u64 {
     }
 }
 
+/// The same for the messages that are translated.
+fn once_translated(side: &str) -> u64 {
+    let messages = streams::messages();
+    match side {
+        "value" => ours::translations(&messages),
+        "rust" => rust::rust_translations(&messages),
+        _ => usage(),
+    }
+}
+
 fn usage() -> ! {
-    eprintln!("benchmarks | benchmarks once lent|value|rust STREAM | benchmarks once SIDE worst N [before]");
+    eprintln!("benchmarks | benchmarks once lent|value|rust STREAM | benchmarks once SIDE worst N [before] | benchmarks once value|rust messages");
     process::exit(2)
 }
 
@@ -201,6 +218,9 @@ fn main() {
             let all = streams::all();
             measure_all(&all);
             measure_room(&all);
+        }
+        ["once", side, "messages"] => {
+            black_box(once_translated(side));
         }
         ["once", side, what @ ..] => {
             black_box(once(side, &named(what)));

@@ -1,5 +1,5 @@
-//! The proved library, as `crates/bench_lent`, `bench_value` and `bench_calls` export it. Its
-//! functions ask nothing of the caller but what their types say.
+//! The proved library, as `crates/bench_lent`, `bench_value`, `bench_translate` and `bench_calls`
+//! export it. Its functions ask nothing of the caller but what their types say.
 
 /// Room for an end; `size` says how much of it one takes.
 #[repr(C, align(8))]
@@ -9,6 +9,7 @@ extern "C" {
     fn gurfemau_new(end: *mut End);
     fn gurfemau_byte(end: *mut End, byte: u8) -> u64;
     fn gurfemau_replies(bytes: *const u8, count: usize) -> u64;
+    fn gurfemau_translations(words: *const u32, count: usize) -> u64;
     fn gurfemau_offsets(bytes: *const u8, count: usize, channels: *const u8, n: usize) -> u64;
     fn gurfemau_notes(notes: *const u8, count: usize) -> u64;
     fn gurfemau_restatement(bend: u16, bytes: *mut u8, count: usize) -> usize;
@@ -50,6 +51,11 @@ pub fn replies_lent(bytes: &[u8]) -> u64 {
     let mut end = End::new();
     let add = |sum: u64, byte: &u8| sum.wrapping_add(end.byte(*byte));
     bytes.iter().fold(0, add)
+}
+
+/// A new record takes the messages by value: the sum of its answers.
+pub fn translations(words: &[u32]) -> u64 {
+    unsafe { gurfemau_translations(words.as_ptr(), words.len()) }
 }
 
 /// A new end hears the bytes and tells the offset of each channel: the sum of the magnitudes.

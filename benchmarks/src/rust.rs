@@ -1,9 +1,10 @@
-//! The Rust: upstream's ParameterState and MpeReceiver under the reader of `oracle/`, with the same
-//! answers as `ours`.
+//! The Rust: upstream's ParameterState and MpeReceiver under the reader of `oracle/`, and its
+//! Midi1ToMidi2Group, with the same answers as `ours`.
 
 use crate::end::{End, Reply};
 use crate::restatement::{ChannelSettings, Settings, ZoneSettings};
 use zmidi_io::mpe::{MpeEvent, MpeLayout, MpeNoteAllocator, MpeSensitivity, MpeZone};
+use zmidi_ump::translate::Midi1ToMidi2Group;
 use zmidi_ump::Channel;
 
 fn zone_code(zone: MpeZone) -> u64 {
@@ -58,6 +59,22 @@ pub fn replies_lent(bytes: &[u8]) -> u64 {
     let mut end = End::new();
     let add = |sum: u64, byte: &u8| sum.wrapping_add(rust_byte(&mut end, *byte));
     bytes.iter().fold(0, add)
+}
+
+/// The counterpart of `gurfemau_translations`: the loop may take the call in.
+#[no_mangle]
+#[inline(never)]
+pub fn rust_translations(words: &[u32]) -> u64 {
+    let mut translator = Midi1ToMidi2Group::new();
+    let mut sum = 0u64;
+    for word in words {
+        let code = match translator.translate_words(*word) {
+            Some([a, b]) => u64::from(b) << 32 | u64::from(a),
+            None => 0,
+        };
+        sum = sum.wrapping_add(code);
+    }
+    sum
 }
 
 #[inline(never)]

@@ -5,6 +5,9 @@ use crate::random::Random;
 /// Bytes of a stream.
 const LENGTH: usize = 1 << 16;
 
+/// Messages to translate.
+const MESSAGES: usize = 1 << 14;
+
 pub struct Stream {
     pub name: &'static str,
     pub bytes: Vec<u8>,
@@ -115,4 +118,43 @@ pub fn channels() -> Vec<u8> {
 pub fn notes() -> Vec<u8> {
     let mut random = Random::new(5);
     (0..LENGTH).map(|_| random.byte()).collect()
+}
+
+/// The word of a message of group 0, from its bytes.
+fn word(bytes: &[u8]) -> u32 {
+    let byte = |at: usize| u32::from(bytes.get(at).copied().unwrap_or(0));
+    0x2000_0000 | byte(0) << 16 | byte(1) << 8 | byte(2)
+}
+
+/// The words of the performance; once in sixteen messages there is, among them, a parameter with its
+/// number and both halves of its value, or a bank and its program.
+pub fn messages() -> Vec<u32> {
+    let mut random = Random::new(6);
+    let bytes = performance();
+    let (_, played) = bytes.split_at(announcement(0, 15).len());
+    let mut words = Vec::new();
+    for message in played.chunk_by(|_, next| *next < 0x80) {
+        words.push(word(message));
+        let channel = random.below(16) as u8;
+        let (msb, lsb) = (value(&mut random), value(&mut random));
+        let mut control = |index, value| words.push(word(&[0xB0 | channel, index, value]));
+        match random.below(32) {
+            0 => {
+                let (number_msb, number_lsb) = random.one_of(&[(101, 100), (99, 98)]);
+                control(number_msb, 0);
+                control(number_lsb, value(&mut random));
+                control(6, msb);
+                control(38, lsb);
+            }
+            1 => {
+                control(0, msb);
+                control(32, lsb);
+                words.push(word(&[0xC0 | channel, value(&mut random)]));
+            }
+            _ => {}
+        }
+    }
+    assert!(words.len() >= MESSAGES, "the performance is too short");
+    words.truncate(MESSAGES);
+    words
 }

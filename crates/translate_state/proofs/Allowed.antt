@@ -1,7 +1,7 @@
 -- Which records are allowed: by channel, and by byte.
 -- Assumes nothing.
-use mathlib.Core.Path.{_≡_, refl, sym}
-use mathlib.Core.Bool.{Bool, true, false, _&&_, not}
+use mathlib.Core.Path.{_≡_, refl}
+use mathlib.Core.Bool.{Bool, true, false, _&&_}
 use mathlib.Core.List.{List}
 use mathlib.Core.Logic.{⊎-elim}
 use Prim.Native.Nat.{ℕ, zero, suc, _<_, _≤_}
@@ -16,15 +16,7 @@ pub both : (x y : Bool) → x && y ≡ true → (x ≡ true) × (y ≡ true)
 both true y h = (refl, h)
 both false y h = absurd (let z : _≡_ {A = ℕ} 0 1 = cc in omega arith)
 
-pub denied : (b : Bool) → not b ≡ true → b ≡ false
-denied true h = sym h
-denied false h = refl
-
-pub affirmed : (b : Bool) → not b ≡ false → b ≡ true
-affirmed true h = refl
-affirmed false h = sym h
-
-and-false : (x : Bool) → x && false ≡ false
+pub and-false : (x : Bool) → x && false ≡ false
 and-false true = refl
 and-false false = refl
 

@@ -13,11 +13,11 @@ use Rattle.translate_state.specs.State.{pendingIn, nullAfterIn, withKind
 use Rattle.translate_state.proofs.Allowed.{both}
 
 -- a test at every number below n
-abbrev everyBelow : (ℕ → Bool) → ℕ → Bool
+abbrev pub everyBelow : (ℕ → Bool) → ℕ → Bool
 everyBelow p zero = true
 everyBelow p (suc n) = everyBelow p n && p n
 
-at : (p : ℕ → Bool) (n : ℕ) → everyBelow p n ≡ true → (k : ℕ) → k < n → p k ≡ true
+pub at : (p : ℕ → Bool) (n : ℕ) → everyBelow p n ≡ true → (k : ℕ) → k < n → p k ≡ true
 at p zero e k h = absurd (not-suc-le-zero h)
 at p (suc n) e k h =
     ⊎-elim

@@ -1,8 +1,10 @@
 // What is carried from one message to the next where MIDI 1.0 is translated to MIDI 2.0 (translate.rs): the held values of sixteen channels, and how
 // messages change them.
 ghost use mathlib.Core.Path.{_≡_};
-ghost use Prim.Native.Nat.{_<_};
-ghost use Rattle.translate_state.specs.State.{withKind, withPending, withoutPending, withNullAfter, withoutNullAfter, withEntry, selectionNulled, newRecord, flagsAllowed, stateAllowed, recordAllowed, pendingSent, numberHeld, kindOfNumber, selected, mcmSelected, entryHeld, completed, controllersReset, bankMsbHeld, bankLsbHeld, bankSent};
+ghost use Prim.Native.Nat.{_<_, _≤_, _^_};
+ghost use mathlib.Core.Bool.{_&&_};
+ghost use lib.Dec.{eqb};
+ghost use Rattle.translate_state.specs.State.{withKind, withPending, withoutPending, withNullAfter, withoutNullAfter, withEntry, selectionNulled, newRecord, heldAllowed, flagsAllowed, stateAllowed, recordAllowed, pendingSent, numberHeld, kindOfNumber, selected, mcmSelected, entryHeld, completed, controllersReset, bankMsbHeld, bankLsbHeld, bankSent};
 
 // The held value 0x7F, of which the null number has two.
 const HELD_NULL: u8 = 0x80;
@@ -79,49 +81,44 @@ fn kind_of_number(index: u8) -> u8
     1
 }
 
-fn flags_allowed(flags: u8) -> bool
-    ensures { λ r. ⌜ r ≡ flagsAllowed flags ⌝ }
+// 0 for flags that are allowed, which are below 16, have no kind 3, and bit 3 only beside bit 2.
+fn flags_excess(flags: u8) -> u64
+    ensures is { λ r. ⌜ eqb r 0 ≡ flagsAllowed flags ⌝ }
+    ensures small { λ r. ⌜ r < 32 ⌝ }
 {
-    if 3 <= flags % 4 {
-        return false;
-    }
-    let above = flags / 4;
-    if above == 0 {
-        return true;
-    }
-    if above == 1 {
-        return true;
-    }
-    above == 3
+    let f = flags as u64;
+    let g = f ^ 4;
+    (f / 16) | (g & (g / 2) & 5)
+}
+
+// 0 for four held values that are allowed: each stands in 16 bits of a word, and with 127 added has bit 8 where it is above 0x80.
+fn held_excess(a: u8, b: u8, c: u8, d: u8) -> u64
+    ensures is { λ r. ⌜ eqb r 0 ≡ (heldAllowed a && (heldAllowed b && (heldAllowed c && heldAllowed d))) ⌝ }
+    ensures small { λ r. ⌜ r < 2 ^ 57 ⌝ }
+{
+    let values = (a as u64)
+        + (b as u64) * 0x1_0000
+        + (c as u64) * 0x1_0000_0000
+        + (d as u64) * 0x1_0000_0000_0000;
+    (values + 0x7F_007F_007F_007F) & 0x100_0100_0100_0100
 }
 
 impl ChannelState {
+    // 0 where each byte has a value that some list of messages gives it. No branches, so that sixteen channels are tested at once.
+    fn excess(self) -> u64
+        ensures is { λ r. ⌜ eqb r 0 ≡ stateAllowed self ⌝ }
+        ensures small { λ r. ⌜ r ≤ 2 ^ 59 ⌝ }
+    {
+        held_excess(self.rpn_msb, self.nrpn_msb, self.data_msb, self.bank_lsb)
+            + held_excess(self.rpn_lsb, self.nrpn_lsb, self.bank_msb, 0)
+            + flags_excess(self.flags)
+    }
+
     // Each byte has a value that some list of messages gives it.
     pub fn is_allowed(self) -> bool
         ensures { λ r. ⌜ r ≡ stateAllowed self ⌝ }
     {
-        if HELD_NULL < self.rpn_msb {
-            return false;
-        }
-        if HELD_NULL < self.rpn_lsb {
-            return false;
-        }
-        if HELD_NULL < self.nrpn_msb {
-            return false;
-        }
-        if HELD_NULL < self.nrpn_lsb {
-            return false;
-        }
-        if HELD_NULL < self.data_msb {
-            return false;
-        }
-        if HELD_NULL < self.bank_msb {
-            return false;
-        }
-        if HELD_NULL < self.bank_lsb {
-            return false;
-        }
-        flags_allowed(self.flags)
+        self.excess() == 0
     }
 
     // Bank Select MSB is held, and sets the held LSB to 0.
@@ -285,14 +282,13 @@ impl Midi1ToMidi2Group {
     pub fn is_allowed(self) -> bool
         ensures { λ r. ⌜ r ≡ recordAllowed self ⌝ }
     {
+        let mut over: u64 = 0;
         let mut c: usize = 0;
         while c < 16 {
             let s = self.state[c];
-            if !s.is_allowed() {
-                return false;
-            }
+            over += s.excess();
             c += 1;
         }
-        true
+        over == 0
     }
 }

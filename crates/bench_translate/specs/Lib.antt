@@ -1,0 +1,2 @@
+-- Definitions that the contract cites: a run of translations.
+pub mod Runs
