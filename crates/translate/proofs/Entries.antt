@@ -8,19 +8,20 @@ use native.Mathlib.Nat.{add-zero, mod-eq-of-lt}
 use native.Mathlib.Omega.{arith}
 use lib.Dec.{eqb, ltb}
 use borrow.Author.Tests.{eqb-true, ne-eqb, le-ltb}
+use lib.ListN.{getD-replicate}
 use Rattle.ump.specs.Choice.{if_then_else_}
 use Rattle.ump.specs.Outcome.{given}
-use Rattle.ump.proofs.Cases.{by-test}
+use Rattle.ump.proofs.Cases.{by-test, of-both}
 use Rattle.translate_state.specs.declared.ChannelState.{ChannelState}
 use Rattle.translate_state.specs.declared.Midi1ToMidi2Group.{Midi1ToMidi2Group}
-use Rattle.translate_state.specs.State.{held, channelState, pendingSent, selected, mcmSelected, entryHeld, completed, controllersReset, stateOn, flagsAllowed}
+use Rattle.translate_state.specs.State.{held, channelState, emptyState, newRecord, pendingSent, selected, mcmSelected, entryHeld, completed, controllersReset, stateOn, flagsAllowed}
 use Rattle.translate.specs.declared.Translation.{Translation}
 use Rattle.translate.specs.declared.Translation.the-variants.{Words, Nothing, OutOfRange}
 use Rattle.translate.specs.Translate.{translationRead, firstWord, controllerData, controllerNumbered, controller, pendingWords, channelStep, enteredAfter, lsbEntered, passedOn, controlChanged, messageTranslated, recordAfter, flushedRecord}
 use Rattle.translate.specs.Lists.{translate-words, flush, translatorAfterAll, wordsFrom, control, Formed}
 use Rattle.translate.specs.Rules.{recordAfterAll, controlWords, registeredWords, assignableWords, NullNumber, McmNumber, EntryRules, McmRules}
 use Rattle.translate_state.proofs.Kept.{sent-kept, sent-kind}
-use Rattle.translate.proofs.Always.{on-allowed, after-formed, always-formed}
+use Rattle.translate.proofs.Always.{new-formed, on-allowed, after-formed, always-formed}
 use Rattle.translate.proofs.Reached.{Each, nothing, _and_, at}
 use Rattle.translate.proofs.Passing.{some, back, with-bank, held-0, held-32}
 use Rattle.translate.proofs.Messages.{fits-B, state-of, Gives, ended, message, said, silent, said-last, fits-C, flush-answer, flush-state}
@@ -237,16 +238,61 @@ reset-6 rm rl nm nl bm bl g c k x z h =
 all-formed : (r : Midi1ToMidi2Group) → Formed r → (ws : List ℕ) → Formed (recordAfterAll r ws)
 all-formed r f ws = always-formed r f (map translate-words ws)
 
--- nothing from a null number
+-- a number that gives nothing
+module _ (g c : ℕ) (hg : g < 16) (hc : c < 16) (k : Kind) (rm rl nm nl bm bl : ℕ) (no-mcm : mcmOf rm rl nm nl k ≡ false)
+    (gives-none : (v : ℕ) → sent rm rl nm nl k g c v ≡ Nothing)
+  where
+    silent-38 : (z w : ℕ) → w < 128 → Gives c (on rm rl nm nl (z + 1) bm bl (code-pending k)) (control g c 38 w ∷ []) [] (on rm rl nm nl (z + 1) bm bl (code k))
+    silent-38 z w h =
+        said-last g c hg hc 38 w (omega arith) h _ [] (first-38 rm rl nm nl bm bl g c k z w) (ap translationRead (gives-none (z * 2 ^ 7 + w))) (ended c _)
+
+    silent-entry : (d z w : ℕ) → z < 128 → w < 128
+        → Gives c (on rm rl nm nl d bm bl (code k)) (control g c 6 z ∷ control g c 38 w ∷ []) [] (on rm rl nm nl (z + 1) bm bl (code k))
+    silent-entry d z w hz hw = silent g c hg hc 6 z (omega arith) hz (first-6 rm rl nm nl bm bl g c k d z hz no-mcm) (silent-38 z w hw)
+
+-- the null number
 module _ (g c : ℕ) (hg : g < 16) (hc : c < 16) (k : Kind) (bm bl : ℕ) where
   null-38 : (z w : ℕ) → w < 128 → Gives c (nulled (z + 1) bm bl (code-pending k)) (control g c 38 w ∷ []) [] (nulled (z + 1) bm bl (code k))
-  null-38 z w h =
-      said-last g c hg hc 38 w (omega arith) h _ [] (first-38 128 128 128 128 bm bl g c k z w) (ap translationRead (null-sends-none k g c (z * 2 ^ 7 + w))) (ended c _)
+  null-38 = silent-38 g c hg hc k 128 128 128 128 bm bl (null-is-no-mcm k) (null-sends-none k g c)
 
   null-entry : (d z w : ℕ) → z < 128 → w < 128
       → Gives c (nulled d bm bl (code k)) (control g c 6 z ∷ control g c 38 w ∷ []) [] (nulled (z + 1) bm bl (code k))
-  null-entry d z w hz hw =
-      silent g c hg hc 6 z (omega arith) hz (first-6 128 128 128 128 bm bl g c k d z hz (null-is-no-mcm k)) (null-38 z w hw)
+  null-entry = silent-entry g c hg hc k 128 128 128 128 bm bl (null-is-no-mcm k) (null-sends-none k g c)
+
+-- no number, and half of one, from a new record
+module _ (g c x y : ℕ) (hg : g < 16) (hc : c < 16) (hx : x < 128) (hy : y < 128) where
+  abbrev entry-6-38 : List ℕ
+  entry-6-38 = control g c 6 x ∷ control g c 38 y ∷ []
+
+  from-new : {ws : List ℕ} {t : ChannelState} → Gives c emptyState ws [] t → wordsFrom newRecord ws ≡ []
+  from-new all = all .gives newRecord new-formed (getD-replicate 16 c emptyState emptyState hc)
+
+  pub without-number : wordsFrom newRecord entry-6-38 ≡ []
+  without-number = from-new (silent-entry g c hg hc none 0 0 0 0 0 0 refl (λ u. refl) 0 x y hx hy)
+
+  module _ (v : ℕ) (hv : v < 128) where
+    -- the other half is missing
+    abbrev FromHalf : ℕ → Type 0
+    FromHalf n = wordsFrom newRecord (control g c n v ∷ entry-6-38) ≡ []
+
+    half-of : (n : ℕ) → n < 128 → (k : Kind) (rm rl nm nl : ℕ) → controlChanged g c emptyState n v ≡ channelStep (on rm rl nm nl 0 0 0 (code k)) Nothing
+        → mcmOf rm rl nm nl k ≡ false → ((u : ℕ) → sent rm rl nm nl k g c u ≡ Nothing) → FromHalf n
+    half-of n hn k rm rl nm nl e no-mcm gives-none =
+        from-new (silent g c hg hc n v hn hv e (silent-entry g c hg hc k rm rl nm nl 0 0 no-mcm gives-none 0 x y hx hy))
+
+    halves : Each (λ n. FromHalf (98 + n)) 4
+    unfolding controlChanged selected pendingSent pendingWords controllerNumbered
+    halves =
+        nothing
+        and half-of 98 (omega arith) nrpn 0 0 0 (v + 1) (rw (mod-eq-of-lt hv)) refl (λ u. refl)
+        and half-of 99 (omega arith) nrpn 0 0 (v + 1) 0 (rw (mod-eq-of-lt hv)) refl (λ u. rw (some v))
+        and half-of 100 (omega arith) rpn 0 (v + 1) 0 0 (rw (mod-eq-of-lt hv)) refl (λ u. refl)
+        and half-of 101 (omega arith) rpn (v + 1) 0 0 0 (rw (mod-eq-of-lt hv)) (of-both (λ b. b ≡ false) (eqb (v + 1) 1) refl refl) (λ u. rw (some v))
+
+    pub with-half : (n : ℕ) → 98 ≤ n → n ≤ 101 → FromHalf n
+    with-half n l h =
+        let e : 98 + (n - 98) ≡ n = omega arith in
+        rw e at (at halves (n - 98) (omega arith))
 
 -- a number that a second message completes, and its entries
 module _ (g c : ℕ) (hg : g < 16) (hc : c < 16) (k : Kind) (a1 a2 a3 a4 rm rl nm nl n2 v2 : ℕ) (hn : n2 < 128) (hv : v2 < 128)

@@ -1,9 +1,10 @@
 -- The rules over lists of messages hold of the definitions: what `translate_words` promises.
 -- Assumes nothing.
 use Rattle.translate_state.specs.declared.Midi1ToMidi2Group.{Midi1ToMidi2Group}
+use Rattle.translate_state.specs.State.{newRecord}
 use Rattle.translate.specs.Lists.{Formed}
-use Rattle.translate.specs.Rules.{TranslatedByRules}
-use Rattle.translate.proofs.Entries.{registered-entries, registered-entries-lsb-first, assignable-entries, assignable-entries-lsb-first, registered-null-entries, assignable-null-entries, mcm-entries, mcm-entries-lsb-first, null-after-flush}
+use Rattle.translate.specs.Rules.{NoNumberRules, TranslatedByRules}
+use Rattle.translate.proofs.Entries.{registered-entries, registered-entries-lsb-first, assignable-entries, assignable-entries-lsb-first, registered-null-entries, assignable-null-entries, mcm-entries, mcm-entries-lsb-first, null-after-flush, without-number, with-half}
 use Rattle.translate.proofs.Passing.{passing-rules, bank-rules, others-kept, others-kept-flushed, same-record}
 
 pub translated-by-rules : (r : Midi1ToMidi2Group) → Formed r → TranslatedByRules r
@@ -23,4 +24,11 @@ translated-by-rules r f =
       other-channels = λ w d n. others-kept r f w d n;
       other-channels-flushed = λ h c d n. others-kept-flushed r f h c d n;
       any-group = λ g h o c a b hg hh ho hc ha hb. same-record r f g h o c a b hg hh ho hc ha hb;
+    }
+
+pub no-number-rules : NoNumberRules newRecord
+no-number-rules =
+    record {
+      no-number = λ g c x y hg hc hx hy. without-number g c x y hg hc hx hy;
+      half-number = λ g c n v x y hg hc l h hv hx hy. with-half g c x y hg hc hx hy v hv n l h;
     }

@@ -126,7 +126,13 @@ pub record McmRules (r : Midi1ToMidi2Group) (g c first second : ℕ) : Type 0 wh
   pub not-pending : (h x : ℕ) → h < 16 → x < 128
       → flushReply (recordAfterAll r (first ∷ second ∷ control g c 6 x ∷ [])) h c ≡ given []
 
--- from a record that is accepted, whatever it holds
+-- of a new record: entries without a number, or with half of one, give nothing (D.3.3)
+pub record NoNumberRules (new : Midi1ToMidi2Group) : Type 0 where
+  pub no-number : (g c x y : ℕ) → g < 16 → c < 16 → x < 128 → y < 128 → wordsFrom new (control g c 6 x ∷ control g c 38 y ∷ []) ≡ []
+  pub half-number : (g c n v x y : ℕ) → g < 16 → c < 16 → 98 ≤ n → n ≤ 101 → v < 128 → x < 128 → y < 128
+      → wordsFrom new (control g c n v ∷ control g c 6 x ∷ control g c 38 y ∷ []) ≡ []
+
+-- from a record that is `Formed`, whatever it holds
 pub record TranslatedByRules (r : Midi1ToMidi2Group) : Type 0 where
   pub passing : (g c : ℕ) → g < 16 → c < 16 → PassingRules r g c
   pub banks : (g c : ℕ) → g < 16 → c < 16 → BankRules r g c
