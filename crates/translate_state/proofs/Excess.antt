@@ -2,7 +2,7 @@
 -- Assumes nothing.
 use mathlib.Core.Path.{_≡_, refl, sym, ap, _∙_}
 use mathlib.Core.Bool.{Bool, true, false, _&&_, not}
-use Prim.Native.Nat.{ℕ, zero, suc, _+_, _*_, _/_, _%_, _^_, _<_, _≤_}
+use Prim.Native.Nat.{ℕ, zero, _+_, _*_, _/_, _%_, _^_, _<_, _≤_}
 use native.Mathlib.Omega.{arith}
 use lib.Bits.{bitAnd, bitOr, bitXor, and-block, and-high}
 use lib.Dec.{ltb, leb, eqb}
@@ -10,7 +10,7 @@ use borrow.Author.Tests.{leb-true, leb-false, eqb-true, eqb-false, ne-eqb, ltb-t
 use Rattle.ump.proofs.Cases.{by-test}
 use Rattle.translate_state.specs.State.{heldAllowed, flagsAllowed}
 use Rattle.translate_state.proofs.Allowed.{both, and-false}
-use Rattle.translate_state.proofs.Flags.{everyBelow, at}
+use Rattle.translate_state.proofs.Flags.{at}
 
 -- a sum is 0 where both of its parts are
 pub sum-zero : (a b : ℕ) → eqb (a + b) 0 ≡ eqb a 0 && eqb b 0
