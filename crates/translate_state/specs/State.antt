@@ -124,7 +124,7 @@ unfoldable pub controllersReset : ChannelState → ChannelState
 controllersReset s =
     if pendingIn (s .flags) then withEntry s (s .«data_msb») (withNullAfter (s .flags)) else selectionNulled s (s .flags)
 
--- 0 and 32 are held for the next program change, and an MSB sets the held LSB to 0 (D.3.4; MIDI 1.0 p. 11)
+-- 0 and 32 are held for the next program change, and an MSB sets the held LSB to 0 (D.3.4; MIDI 1.0 4.2.1)
 abbrev pub bankMsbHeld : ChannelState → ℕ → ChannelState
 bankMsbHeld s v = withBank s (held v) (held 0)
 
