@@ -22,7 +22,7 @@ use Rattle.translate.specs.Lists.{translate-words, flush, translatorAfte
 use Rattle.translate.specs.Rules.{recordAfterAll, controlWords, registeredWords, assignableWords, NullNumber, McmNumber, EntryRules, McmRules}
 use Rattle.translate_state.proofs.Kept.{sent-kept, sent-kind}
 use Rattle.translate.proofs.Always.{new-formed, on-allowed, after-formed, always-formed}
-use Rattle.translate.proofs.Reached.{Each, nothing, _and_, at}
+use Rattle.translate.proofs.Each.{Each, nothing, _and_, at}
 use Rattle.translate.proofs.Passing.{some, back, with-bank, held-0, held-32}
 use Rattle.translate.proofs.Messages.{fits-B, state-of, Gives, ended, message, said, silent, said-last, fits-C, flush-answer, flush-state}
 

@@ -16,7 +16,8 @@ use Rattle.translate_state.specs.State.{held, kindIn, pendingIn, nullAfterIn, n
 use Rattle.translate.specs.Translate.{translationRead, translationOf, recordAfter, controllerNumbered, controller, pendingWords, enteredAfter, lsbEntered, controlChanged, programWords, messageTranslated}
 use Rattle.translate.specs.Lists.{TranslatorCall, translate-words, flush, answerTo, translatorAfterAll, wordsAnswered, wordsFrom, ListContinues, ofMessage, isGiven, ExactlyAccepted, Formed}
 use Rattle.translate.proofs.Always.{new-formed, on-allowed, always-formed}
-use Rattle.translate.proofs.Reached.{at, leads}
+use Rattle.translate.proofs.Each.{at}
+use Rattle.translate.proofs.Reached.{leads}
 use Rattle.translate.proofs.Refused.{bytes-allowed}
 
 -- words, or none, and no refusal

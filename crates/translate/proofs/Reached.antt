@@ -1,11 +1,9 @@
 -- Each value that a byte may have is given by the list of messages beside it.
 -- Assumes nothing.
-use mathlib.Core.Path.{_≡_, refl, sym, ap, subst, _∙_}
+use mathlib.Core.Path.{_≡_, refl, sym, ap, _∙_}
 use mathlib.Core.Bool.{true, false, true≢false}
-use mathlib.Core.Logic.{⊎-elim}
 use mathlib.Core.List.{List, [], _∷_, map}
-use Prim.Native.Nat.{ℕ, zero, suc, _+_, _-_, _%_, _^_, _<_, _≤_}
-use native.Mathlib.Nat.{eq-or-lt-of-le, not-suc-le-zero, le-of-suc-le-suc}
+use Prim.Native.Nat.{ℕ, _+_, _-_, _%_, _^_, _<_, _≤_}
 use native.Mathlib.Omega.{arith}
 use borrow.Author.Tests.{eqb-true, eqb-false, leb-true}
 use lib.Dec.{eqb}
@@ -20,18 +18,8 @@ use Rattle.translate.specs.Translate.{pendingWords, enteredAfter, contro
 use Rattle.translate.specs.Lists.{translate-words, translatorAfterAll, byteOf, byteAllowed, control, controllerOf, leadingToFlags, leadingTo, allMessages, Formed}
 use Rattle.translate_state.proofs.Flags.{flags-lt}
 use Rattle.translate.proofs.Always.{new-formed, after-formed}
+use Rattle.translate.proofs.Each.{Each, nothing, _and_, at}
 use Rattle.translate.proofs.Messages.{Fits, fits-B, state-of}
-
--- a fact of each number below n
-pub data Each (P : ℕ → Type 0) : ℕ → Type 0 where
-  nothing : Each P zero
-  _and_ : {n : ℕ} → Each P n → P n → Each P (suc n)
-
-infixl 1 _and_
-pub at : {P : ℕ → Type 0} {n : ℕ} → Each P n → (k : ℕ) → k < n → P k
-at nothing k h = absurd (not-suc-le-zero h)
-at {P} (all and p) k h =
-    ⊎-elim (λ (e : k ≡ _). subst P (sym e) p) (λ b. at all k b) (eq-or-lt-of-le (le-of-suc-le-suc h))
 
 module _ (c : ℕ) (h : c < 16) where
   -- the state that a control change leaves

@@ -10,7 +10,7 @@ use Rattle.translate_state.specs.declared.Midi1ToMidi2Group.{Midi1ToMidi2Group}
 use Rattle.translate_state.specs.State.{stateOn, stateAllowed, recordAllowed}
 use Rattle.translate_state.proofs.Allowed.{Allowed, parts-allowed, one-refused}
 use Rattle.translate.specs.Lists.{byteOf, byteAllowed, OthersRefused}
-use Rattle.translate.proofs.Reached.{Each, nothing, _and_, at}
+use Rattle.translate.proofs.Each.{Each, nothing, _and_, at}
 
 -- each byte of a channel that is allowed
 pub bytes-allowed : (s : ChannelState) → Allowed s → Each (λ k. byteAllowed k (byteOf s k) ≡ true) 8

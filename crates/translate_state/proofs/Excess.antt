@@ -10,7 +10,7 @@ use borrow.Author.Tests.{leb-true, leb-false, eqb-true, eqb-false, ne-eqb, ltb-t
 use Rattle.ump.proofs.Cases.{by-test}
 use Rattle.translate_state.specs.State.{heldAllowed, flagsAllowed}
 use Rattle.translate_state.proofs.Allowed.{both, and-false}
-use Rattle.translate_state.proofs.Flags.{at}
+use Rattle.translate_state.proofs.Flags.{everyBelow, at}
 
 -- a sum is 0 where both of its parts are
 pub sum-zero : (a b : ℕ) → eqb (a + b) 0 ≡ eqb a 0 && eqb b 0
@@ -64,20 +64,18 @@ alike-same true y h = sym h
 alike-same false true h = h
 alike-same false false h = refl
 
-abbrev flagsOver : ℕ → ℕ
-flagsOver f = bitOr (f / 16) (bitAnd (bitAnd (bitXor f 4) (bitXor f 4 / 2)) 5)
+abbrev pub flagsOver : ℕ → ℕ → ℕ
+flagsOver mask f = bitOr (f / 16) (bitAnd (bitAnd (bitXor f 4) (bitXor f 4 / 2)) mask)
 
-abbrev flagsTest : ℕ → Bool
-flagsTest f = alike (eqb (flagsOver f) 0) (flagsAllowed f) && ltb (flagsOver f) 32
+abbrev pub flagsTest : ℕ → ℕ → Bool
+flagsTest mask f = alike (eqb (flagsOver mask f) 0) (flagsAllowed f) && ltb (flagsOver mask f) 32
 
-flags-test : (f : ℕ) → f < 256 → flagsTest f ≡ true
-flags-test f h = at flagsTest 256 refl f h
-
-pub flags-tested : (f : ℕ) → f < 256 → eqb (flagsOver f) 0 ≡ flagsAllowed f
-flags-tested f h = alike-same _ _ (both _ _ (flags-test f h) .0)
-
-pub flags-small : (f : ℕ) → f < 256 → flagsOver f < 32
-flags-small f h = ltb-true _ _ (both (alike (eqb (flagsOver f) 0) (flagsAllowed f)) (ltb (flagsOver f) 32) (flags-test f h) .1)
+-- with a mask for which the test passes at every byte, the number is 0 for the flags that are allowed, and for no other
+pub flags-tested : (mask : ℕ) → everyBelow (flagsTest mask) 256 ≡ true → (f : ℕ) → f < 256
+    → (eqb (flagsOver mask f) 0 ≡ flagsAllowed f) × (flagsOver mask f < 32)
+flags-tested mask t f h =
+    let b = both (alike (eqb (flagsOver mask f) 0) (flagsAllowed f)) (ltb (flagsOver mask f) 32) (at (flagsTest mask) 256 t f h) in
+    (alike-same _ _ (b .0), ltb-true _ _ (b .1))
 
 -- the bytes of a channel by turns, and its flags
 pub regrouped : (a b c d e f g h : Bool) → ((a && (c && (e && g))) && (b && (d && (f && true)))) && h ≡ a && (b && (c && (d && (e && (f && (g && h))))))
