@@ -51,9 +51,12 @@ wordsFrom r (w ∷ ws) = wordsAnswered (translationOf r w) ++ wordsFrom (recordA
 abbrev pub wordsOf : List ℕ → List ℕ
 wordsOf ws = wordsFrom newRecord ws
 
--- the first message gives its words, and the rest theirs from the record that it leaves: what the contract of `translate_words` says
-abbrev pub ListContinues : Midi1ToMidi2Group → ℕ → Outcome (List ℕ) → Midi1ToMidi2Group → Type 0
-ListContinues r w answer left = (ws : List ℕ) → wordsFrom r (w ∷ ws) ≡ wordsAnswered answer ++ wordsFrom left ws
+-- the words of a list: none of an empty one; else those of its first message, none where it is declined, and then those of the rest, from the record
+-- that is left. What the contract of `translate_words` says.
+pub record ListContinues (r : Midi1ToMidi2Group) (w : ℕ) (answer : Outcome (List ℕ)) (left : Midi1ToMidi2Group) : Type 0 where
+  pub first-then-rest : (ws : List ℕ) → wordsFrom r (w ∷ ws) ≡ wordsAnswered answer ++ wordsFrom left ws
+  pub none-declined : wordsAnswered outOfRange ≡ []
+  pub none-of-none : wordsFrom r [] ≡ []
 
 -- a byte of a channel, by its place among the eight
 abbrev pub byteOf : ChannelState → ℕ → ℕ
@@ -99,14 +102,9 @@ unfoldable pub allMessages : List ℕ → Bool
 allMessages [] = true
 allMessages (w ∷ ws) = wordForm w && allMessages ws
 
--- a call whose word, where it has one, is a message
-abbrev pub ofMessage : TranslatorCall → Bool
-ofMessage (translate-words w) = wordForm w
-ofMessage (flush g c) = true
-
-abbrev pub isGiven : Outcome (List ℕ) → Bool
-isGiven (given words) = true
-isGiven (declined n v) = false
+-- words were given, or none, and nothing was declined
+pub data Given : Outcome (List ℕ) → Type 0 where
+  with-words : (words : List ℕ) → Given (given words)
 
 -- a record of sixteen channels that is accepted
 pub record Formed (r : Midi1ToMidi2Group) : Type 0 where
@@ -119,9 +117,9 @@ pub record ExactlyAccepted (new : Midi1ToMidi2Group) : Type 0 where
   pub kept : (calls : List TranslatorCall) (c k : ℕ) → c < 16 → k < 8
       → byteAllowed k (byteOf (stateOn (translatorAfterAll new calls) c) k) ≡ true
   pub formed : (calls : List TranslatorCall) → Formed (translatorAfterAll new calls)
-  -- so that no call is declined but one whose word is no message
-  pub answered : (calls : List TranslatorCall) (call : TranslatorCall) → ofMessage call ≡ true
-      → isGiven (answerTo (translatorAfterAll new calls) call) ≡ true
+  -- so that no message and no flush is declined
+  pub message-answered : (calls : List TranslatorCall) (w : ℕ) → wordForm w ≡ true → Given (translationOf (translatorAfterAll new calls) w)
+  pub flush-answered : (calls : List TranslatorCall) (g c : ℕ) → Given (flushReply (translatorAfterAll new calls) g c)
   -- and each value that is accepted is given by some list of messages
   pub reached : (c k x : ℕ) → c < 16 → k < 8 → byteAllowed k x ≡ true
       → (allMessages (leadingTo c k x) ≡ true) × (byteOf (stateOn (translatorAfterAll new (map translate-words (leadingTo c k x))) c) k ≡ x)
