@@ -4,7 +4,7 @@ use mathlib.Core.Path.{_≡_, refl, sym, ap, _∙_, subst}
 use mathlib.Core.Bool.{Bool, true, false, _&&_}
 use mathlib.Core.Logic.{inl, inr}
 use Prim.Native.Nat.{ℕ, suc, _+_, _-_, _*_, _/_, _%_, _^_, _<_, _≤_, min}
-use native.Mathlib.Nat.{pow-suc, one-mul, add-mul, le-of-lt, lt-of-le-of-lt, min-eq-left, min-eq-right, min-le-right, zero-mul, mul-mod-left, le-div-iff-mul-le, mod-lt, div-add-mod'}
+use native.Mathlib.Nat.{pow-suc, one-mul, add-mul, le-of-lt, lt-of-le-of-lt, min-eq-left, min-eq-right, min-le-right, zero-mul, mul-mod-left, le-div-iff-mul-le, mod-lt, div-add-mod', div-lt-iff-lt-mul}
 use native.Mathlib.Omega.{arith}
 use lib.Dec.{leb}
 use lib.Pow.{pow-pos, pow-add, pow-lt, shl-shr, ones-lt, le-ones, ones-split, high}
@@ -15,7 +15,7 @@ use Rattle.ump.specs.Field.{field}
 use Rattle.ump.proofs.Cases.{by-test}
 use Rattle.scale.specs.declared.Scaled.{Scaled}
 use Rattle.scale.specs.Scale.{scaledRead, widens, narrows, repeated, widened, narrowed, zeroExtended, rounded, upscaled, downscaled, zeroUpscaled, zeroDownscaled}
-use Rattle.scale.specs.Claims.{OfValue, Widened, OneWidened, UpscaleKeeps, UpscaleRises, DownscaleReturns, ZeroDownscaleReturns, ZeroExtended, NearestUp, HalfAbove, Rounded}
+use Rattle.scale.specs.Claims.{OfValue, Widened, OneWidened, UpscaleKeeps, UpscaleRises, DownscaleReturns, Narrowed, ZeroDownscaleReturns, ZeroExtended, NearestUp, HalfAbove, Rounded}
 use Rattle.scale.specs.Examples.{ScalesAsTabled, scaleTable, scaleAnswer}
 use Rattle.scale.proofs.Range.{both, Ranged, widening, narrowing, narrows-holds}
 use Rattle.scale.proofs.Repeat.{bits, only}
@@ -136,6 +136,22 @@ returned v s d x e =
     narrows-holds d s x (record { low = r .low; top = r .top; more = r .more; fits = rw (a .1) (widened-lt s d v r) }) in
     rw n (ap given (ap (λ (y : ℕ). y / 2 ^ (d - s)) (a .1) ∙ widened-back s d v r))
 
+-- the low bits are cut off
+narrowed-is : (v s d x : ℕ) → downscaled v s d ≡ given x → Narrowed s d v x
+unfolding downscaled narrowed
+narrowed-is v s d x e =
+    let g = gave (narrows s d v) (v / 2 ^ (s - d)) x e in
+    let r = narrowing s d v (g .0) in
+    let q = 2 ^ (s - d) in
+    let f : s ≡ d + (s - d) = omega arith in
+    let t : v < 2 ^ d * q = subst (λ (y : ℕ). v < y) (ap (λ (y : ℕ). 2 ^ y) f ∙ pow-add 2 d (s - d)) (r .fits) in
+    let m = mod-lt v (pow-pos (s - d)) in
+    record {
+      fits = rw (g .1) (div-lt-iff-lt-mul {k = q} {x = v} {y = 2 ^ d} (pow-pos (s - d)) .1 t);
+      below = rw (g .1) (omega (arith, div-add-mod' v q));
+      next-above = rw (g .1, add-mul (v / q) 1 q, one-mul q) (omega (arith, div-add-mod' v q));
+    }
+
 -- a half, below the value's own bits, is cut off
 half-lost : (v k : ℕ) → 1 ≤ k → (v * 2 ^ k + 2 ^ (k - 1)) / 2 ^ k ≡ v
 half-lost v k h = high v k (pow-lt (omega arith))
@@ -221,8 +237,10 @@ upscale-claims r v s d e = (
 )
 
 pub downscale-claims :
-    (r : Scaled) (v s d : ℕ) → scaledRead r ≡ downscaled v s d → (scaledRead r ≡ downscaled v s d) × DownscaleReturns v s d r
-downscale-claims r v s d e = (e, (λ w g. e ∙ returned w d s v g))
+    (r : Scaled) (v s d : ℕ) → scaledRead r ≡ downscaled v s d →
+    (scaledRead r ≡ downscaled v s d) × (OfValue r (Narrowed s d v) × DownscaleReturns v s d r)
+downscale-claims r v s d e =
+    (e, ((λ x g. narrowed-is v s d x (sym e ∙ ap scaledRead g)), (λ w g. e ∙ returned w d s v g)))
 
 pub zero-extend-upscale-claims :
     (r : Scaled) (v s d : ℕ) → scaledRead r ≡ zeroUpscaled v s d →

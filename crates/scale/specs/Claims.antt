@@ -49,6 +49,12 @@ DownscaleReturns value s d r = (v : ℕ) → upscaled v d s ≡ given value → 
 abbrev pub ZeroDownscaleReturns : ℕ → ℕ → ℕ → Scaled → Type 0
 ZeroDownscaleReturns value s d r = (v : ℕ) → zeroUpscaled v d s ≡ given value → scaledRead r ≡ given v
 
+-- 3.4: x is the value v of s bits without its s - d low bits, the highest that lies below v or at it once it is shifted back
+pub record Narrowed (s d v x : ℕ) : Type 0 where
+  pub fits : x < 2 ^ d
+  pub below : x * 2 ^ (s - d) ≤ v
+  pub next-above : v < (x + 1) * 2 ^ (s - d)
+
 -- 4.3: the value's own bits are the highest, and those below them are 0
 pub record ZeroExtended (s d v x : ℕ) : Type 0 where
   pub fits : x < 2 ^ d

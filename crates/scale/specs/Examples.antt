@@ -43,12 +43,16 @@ scaleTable =
     ∷ example (upscale 0 0 7) outOfRange
     ∷ example (downscale 0xAEBA 16 7) (given 0x57)
     ∷ example (downscale 0xFFFFFFFF 32 7) (given 0x7F)
+    ∷ example (downscale 0x8000 16 1) (given 1)
+    ∷ example (downscale 0x7FFF 16 1) (given 0)
     ∷ example (downscale 0x57 7 7) outOfRange
+    ∷ example (downscale 0x10000 16 7) outOfRange
     ∷ example (zero-extend-upscale 0x7F 7 16) (given 0xFE00)
     ∷ example (zero-extend-upscale 1 1 16) outOfRange
     ∷ example (zero-extend-downscale 0x15FF 16 7) (given 0x0B)
     ∷ example (zero-extend-downscale 0x15FF 16 16) outOfRange
     ∷ example (zero-extend-downscale 0xFFFF 16 7) (given 0x7F)
+    ∷ example (zero-extend-downscale 0x10000 16 7) outOfRange
     ∷ []
 
 -- each call of the table gives the answer beside it

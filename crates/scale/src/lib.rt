@@ -3,7 +3,7 @@ ghost use mathlib.Core.Path.{_≡_};
 ghost use Prim.Native.Nat.{_-_, _*_, _/_, _%_, _^_, _<_, _≤_};
 ghost use lib.Dec.{ltb};
 ghost use Rattle.scale.specs.Scale.{scaledRead, widens, narrows, repeated, widened, upscaled, downscaled, zeroUpscaled, zeroDownscaled};
-ghost use Rattle.scale.specs.Claims.{OfValue, Widened, OneWidened, UpscaleKeeps, UpscaleRises, DownscaleReturns, ZeroExtended, Rounded, ZeroDownscaleReturns};
+ghost use Rattle.scale.specs.Claims.{Narrowed, OfValue, Widened, OneWidened, UpscaleKeeps, UpscaleRises, DownscaleReturns, ZeroExtended, Rounded, ZeroDownscaleReturns};
 ghost use Rattle.scale.specs.Examples.{ScalesAsTabled};
 
 // What a call answers: the scaled value, or out of range.
@@ -136,6 +136,7 @@ pub fn upscale(value: u32, src_bits: u8, dst_bits: u8) -> Scaled
 // Min-Center-Max downscaling (3.4): refused unless 1 <= dst_bits < src_bits <= 32 and the value has src_bits bits.
 pub fn downscale(value: u32, src_bits: u8, dst_bits: u8) -> Scaled
     ensures is { λ r. ⌜ scaledRead r ≡ downscaled value «src_bits» «dst_bits» ⌝ }
+    ensures cut { λ r. ⌜ OfValue r (Narrowed «src_bits» «dst_bits» value) ⌝ }
     ensures returns { λ r. ⌜ DownscaleReturns value «src_bits» «dst_bits» r ⌝ }
 {
     if can_downscale(value, src_bits, dst_bits) {

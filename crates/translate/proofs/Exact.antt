@@ -1,7 +1,6 @@
 -- The values that a byte may have after calls on a new record are those that are accepted, and a list of messages goes on from the record that is left.
 -- Assumes nothing.
 use mathlib.Core.Path.{_≡_, refl, sym}
-use mathlib.Core.Bool.{true}
 use mathlib.Core.List.{List, _++_}
 use Prim.Native.Nat.{ℕ, _%_}
 use lib.Dec.{ltb, eqb}
@@ -14,7 +13,7 @@ use Rattle.translate.specs.declared.Translation.the-variants.{Words, Not
 use Rattle.translate.specs.declared.Stepped.{Stepped}
 use Rattle.translate_state.specs.State.{held, kindIn, pendingIn, nullAfterIn, newRecord, stateOn, pendingSent, mcmSelected, entryHeld}
 use Rattle.translate.specs.Translate.{translationRead, translationOf, recordAfter, controllerNumbered, controller, pendingWords, enteredAfter, lsbEntered, controlChanged, programWords, messageTranslated}
-use Rattle.translate.specs.Lists.{TranslatorCall, translate-words, flush, answerTo, translatorAfterAll, wordsAnswered, wordsFrom, ListContinues, Given, with-words, ExactlyAccepted, Formed}
+use Rattle.translate.specs.Lists.{flush, translatorAfterAll, wordsAnswered, wordsFrom, ListContinues, Given, with-words, ExactlyAccepted}
 use Rattle.translate.proofs.Always.{new-formed, on-allowed, always-formed}
 use Rattle.translate.proofs.Each.{at}
 use Rattle.translate.proofs.Reached.{leads}

@@ -117,7 +117,8 @@ module _ (s : ChannelState) (a : Allowed s) where
   unfolding selected
   selected-kept n v =
       entry-kept (numberHeld s n v) (number-kept s a n v) 0 (withKind (s .flags) (kindOfNumber n)) (omega arith)
-      (of-both (λ k. flagsAllowed (withKind (s .flags) k) ≡ true) (ltb n 100) (kind-2 (s .flags) (a .flags-of)) (kind-1 (s .flags) (a .flags-of)))
+      (of-both (λ k. flagsAllowed (withKind (s .flags) k) ≡ true) (eqb n 101) (kind-1 (s .flags) (a .flags-of))
+      (of-both (λ k. flagsAllowed (withKind (s .flags) k) ≡ true) (eqb n 100) (kind-1 (s .flags) (a .flags-of)) (kind-2 (s .flags) (a .flags-of))))
 
   pub entered-kept : (v : ℕ) → Allowed (entryHeld s v)
   unfolding entryHeld

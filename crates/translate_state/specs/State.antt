@@ -99,8 +99,9 @@ numberHeld s n v =
     if eqb n 99 then withHeldNrpn s (held v) (s .«nrpn_lsb») else
     withHeldNrpn s (s .«nrpn_msb») (held v)
 
+-- 101 and 100 select a registered parameter, 99 and 98 an assignable one
 abbrev pub kindOfNumber : ℕ → ℕ
-kindOfNumber n = if ltb n 100 then 2 else 1
+kindOfNumber n = if eqb n 101 then 1 else if eqb n 100 then 1 else 2
 
 -- 98 to 101: the number is stored, its kind selected, and no Data Entry MSB is held (D.3.3)
 unfoldable pub selected : ChannelState → ℕ → ℕ → ChannelState

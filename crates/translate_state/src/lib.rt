@@ -70,15 +70,18 @@ fn without_null_after(flags: u8) -> u8
     flags
 }
 
-// The kind of a parameter number's controller, 98 to 101.
+// The kind of a parameter number's controller: registered for 101 and 100, assignable for 99 and 98.
 fn kind_of_number(index: u8) -> u8
     ensures is { λ r. ⌜ r ≡ kindOfNumber index ⌝ }
     ensures small { λ r. ⌜ r < 4 ⌝ }
 {
-    if index < 100 {
-        return 2;
+    if index == 101 {
+        return 1;
     }
-    1
+    if index == 100 {
+        return 1;
+    }
+    2
 }
 
 // 0 for flags that are allowed, which are below 16, have no kind 3, and bit 3 only beside bit 2.
@@ -207,7 +210,7 @@ impl ChannelState {
         s
     }
 
-    // A parameter number selects its kind, and no Data Entry MSB is held.
+    // A parameter number, controllers 98 to 101, is stored, selects its kind, and no Data Entry MSB is held. Any other controller is taken as 98.
     pub fn select(self, index: u8, value: u8) -> ChannelState
         ensures { λ r. ⌜ r ≡ selected self index value ⌝ }
     {

@@ -10,5 +10,8 @@ returns c = search auto
 returns-2 : tie.Need-returns-2
 returns-2 c = search auto
 
+returns-3 : tie.Need-returns-3
+returns-3 c = search auto
+
 pub kind-of-number-spec : {M : Type 1} → statement M
-kind-of-number-spec = tie.close (tie.spec returns returns-2)
+kind-of-number-spec = tie.close (tie.spec returns returns-2 returns-3)
