@@ -10,8 +10,8 @@ use Rattle.ump.specs.Outcome.{Outcome, given, declined, outOfRange}
 use Rattle.ump.specs.Word.{wordForm, wordOf}
 use Rattle.translate_state.specs.declared.ChannelState.{ChannelState}
 use Rattle.translate_state.specs.declared.Midi1ToMidi2Group.{Midi1ToMidi2Group}
-use Rattle.translate_state.specs.State.{newRecord, stateOn, heldAllowed, flagsAllowed, recordAllowed}
-use Rattle.translate.specs.Translate.{translationOf, recordAfter, flushReply, flushedRecord}
+use Rattle.translate_state.specs.State.{emptyState, withEntry, newRecord, stateOn, heldAllowed, flagsAllowed, recordAllowed}
+use Rattle.translate.specs.Translate.{withState, translationOf, recordAfter, flushReply, flushedRecord}
 
 -- the calls on a record: a message's word, a flush of a group and a channel. (A reset gives a new record, and a list of calls begins again.)
 pub data TranslatorCall : Type 0 where
@@ -130,3 +130,10 @@ pub record OthersRefused (r : Midi1ToMidi2Group) : Type 0 where
       → TranslatorGives r (translate-words w) outOfRange r
   pub flush-refused : (c k g d : ℕ) → c < 16 → k < 8 → byteAllowed k (byteOf (stateOn r c) k) ≡ false
       → TranslatorGives r (flush g d) outOfRange r
+
+-- there are such records: a new one but for flags 8 on channel 15
+abbrev pub resetWithoutPending : Midi1ToMidi2Group
+resetWithoutPending = withState newRecord 15 (withEntry emptyState 0 8)
+
+abbrev pub OthersMet : Type 0
+OthersMet = byteAllowed 7 (byteOf (stateOn resetWithoutPending 15) 7) ≡ false

@@ -4,7 +4,7 @@ ghost use Prim.Native.Nat.{_<_, _≤_, _^_};
 ghost use Rattle.scale.specs.Scale.{scaledRead, widened, zeroExtended};
 ghost use Rattle.translate_state.specs.State.{valueIn, newRecord};
 ghost use Rattle.translate.specs.Translate.{translationRead, givenOr0, firstWord, controllerData, controllerNumbered, controller, joinedValue, pendingWords, channelStep, enteredAfter, msbEntered, lsbEntered, passedOn, controlChanged, bankWords, programWords, noteWords, messageTranslated, withState, translationOf, recordAfter, flushReply, flushedRecord};
-ghost use Rattle.translate.specs.Lists.{translate-words, flush, TranslatorGives, ListContinues, Formed, ExactlyAccepted, OthersRefused};
+ghost use Rattle.translate.specs.Lists.{translate-words, flush, TranslatorGives, ListContinues, Formed, ExactlyAccepted, OthersRefused, OthersMet};
 ghost use Rattle.translate.specs.Rules.{NoNumberRules, TranslatedByRules};
 use scale::Scaled;
 use scale::upscale;
@@ -384,7 +384,7 @@ pub fn translate_words(translator: Midi1ToMidi2Group, word: u32) -> Translated
     ensures listed { λ r. ⌜ TranslatorGives translator (translate-words word) (translationRead (r .reply)) (r .translator) ⌝ }
     ensures words { λ r. ⌜ ListContinues translator word (translationRead (r .reply)) (r .translator) ⌝ }
     ensures exact { λ _. ⌜ ExactlyAccepted newRecord ⌝ }
-    ensures others { λ _. ⌜ OthersRefused translator ⌝ }
+    ensures others { λ _. ⌜ OthersRefused translator × OthersMet ⌝ }
     ensures rules { λ _. ⌜ (Formed translator → TranslatedByRules translator) × NoNumberRules newRecord ⌝ }
 {
     if translator.is_allowed() {

@@ -14,7 +14,7 @@ use Rattle.translate.proofs.Exact.{continues, exactly-accepted}
 use Rattle.translate.proofs.Rules.{translated-by-rules, no-number-rules}
 use Rattle.translate.specs.Translate.{translationOf, recordAfter}
 use Rattle.ump.specs.Outcome.{outOfRange}
-use mathlib.Core.Path.{_≡_}
+use mathlib.Core.Path.{_≡_, refl}
 
 is-allowed-requires : tie.Need-is-allowed-requires
 is-allowed-requires c κs = search needs
@@ -83,7 +83,7 @@ returns c =
     rw (a, t) (ap translationRead (c .replying .ensures .0) ∙ (λ i. translationRead (h i .reply))) in
     let l : c .replying .result .translator ≡ recordAfter r w =
     rw (a, t) (c .replying .ensures .1 ∙ (λ i. withState r (n .channel .ensures i) (h i .state))) in
-    (e, (l, ((e, l), (continues r w _ _ e l, (exactly-accepted, (others-refused r, (translated-by-rules r, no-number-rules)))))))
+    (e, (l, ((e, l), (continues r w _ _ e l, (exactly-accepted, ((others-refused r, refl), (translated-by-rules r, no-number-rules)))))))
 
 returns-2 : tie.Need-returns-2
 returns-2 c =
@@ -92,7 +92,7 @@ returns-2 c =
     let r = c .before .before .before .before .args in
     let e : outOfRange ≡ translationOf (r .t1) (r .word) = rw (a, t) in
     let l : r .t1 ≡ recordAfter (r .t1) (r .word) = rw (a, t) in
-    (e, (l, ((e, l), (continues (r .t1) (r .word) _ _ e l, (exactly-accepted, (others-refused (r .t1), (translated-by-rules (r .t1), no-number-rules)))))))
+    (e, (l, ((e, l), (continues (r .t1) (r .word) _ _ e l, (exactly-accepted, ((others-refused (r .t1), refl), (translated-by-rules (r .t1), no-number-rules)))))))
 
 returns-3 : tie.Need-returns-3
 returns-3 c =
@@ -100,7 +100,7 @@ returns-3 c =
     let r = c .before .before .args in
     let e : outOfRange ≡ translationOf (r .t1) (r .word) = rw a in
     let l : r .t1 ≡ recordAfter (r .t1) (r .word) = rw a in
-    (e, (l, ((e, l), (continues (r .t1) (r .word) _ _ e l, (exactly-accepted, (others-refused (r .t1), (translated-by-rules (r .t1), no-number-rules)))))))
+    (e, (l, ((e, l), (continues (r .t1) (r .word) _ _ e l, (exactly-accepted, ((others-refused (r .t1), refl), (translated-by-rules (r .t1), no-number-rules)))))))
 
 pub translate-words-spec : {M : Type 1} → statement M
 translate-words-spec =
