@@ -91,9 +91,6 @@ const BANKS: [[u8; 2]; 5] = [[0, 0], [1, 1], [0, 65], [64, 1], [128, 128]];
 /// The channel of the table `translations`.
 const CHANNEL: u8 = 9;
 
-/// Data bytes beside which each other one is gone through.
-const LIMITS: [u8; 4] = [0, 1, 64, 127];
-
 /// The records, each with its number: every one of the flags with every number and entry. The
 /// number that is not selected is another, and the banks go round, so that each comes with each of
 /// the flags.
@@ -123,13 +120,11 @@ fn changes(opcode: u8, first: u8) -> bool {
 }
 
 /// The messages with an opcode and a first data byte, and what is held then.
-fn messages(items: &mut Items, group: u8, [opcode, first]: [u8; 2], record: [u8; 8], all: bool) {
+fn messages(items: &mut Items, group: u8, [opcode, first]: [u8; 2], record: [u8; 8]) {
     let status = opcode << 4 | CHANNEL;
-    let seconds: Vec<u8> = match opcode {
-        0xC | 0xD => vec![0],
-        0xB => (0..128).collect(),
-        _ if all || LIMITS.contains(&first) => (0..128).collect(),
-        _ => LIMITS.to_vec(),
+    let seconds = match opcode {
+        0xC | 0xD => 0..1,
+        _ => 0..128,
     };
     for second in seconds {
         items.put(&[0x81, 0x20 | group, status, first, second]);
@@ -141,19 +136,16 @@ fn messages(items: &mut Items, group: u8, [opcode, first]: [u8; 2], record: [u8;
     items.put(&[0x83, CHANNEL]);
 }
 
-/// Items 81 and 82 on one channel from each of the records. Of Control Changes, Program Changes and
-/// Channel Pressures all words, of the others each data byte beside the limits of the other; from
-/// each of the flags and entries with one number all words of the channel.
+/// Items 81 and 82 on one channel from each of the records: all words of the channel, and the flush
+/// with each group.
 pub fn translations(items: &mut Items) {
     for (number, record) in records() {
         let group = number as u8 & 0xF;
-        // One number of the eleven, 0/0 or beside it.
-        let all = number / 4 % 11 == 3;
         items.put(&[0x80]);
         set(items, CHANNEL, record);
         for opcode in 0x8..=0xE {
             for first in 0..128 {
-                messages(items, group, [opcode, first], record, all);
+                messages(items, group, [opcode, first], record);
             }
         }
         for group in 0..16 {
