@@ -321,6 +321,11 @@ module _ (g c : ℕ) (hg : g < 16) (hc : c < 16) (k : Kind) (a1 a2 a3 a4 rm rl n
     complete bm bl x y h =
         said-last g c hg hc 38 y (omega arith) h _ (entry g (x * 2 ^ 7 + y)) (first-38 rm rl nm nl bm bl g c k x y) (read g (x * 2 ^ 7 + y)) (ended c _)
 
+    -- 38 once more
+    again : (bm bl x y : ℕ) → y < 128 → Gives c (waiting x bm bl (code k)) (control g c 38 y ∷ []) (entry g (x * 2 ^ 7 + y)) (waiting x bm bl (code k))
+    again bm bl x y h =
+        said-last g c hg hc 38 y (omega arith) h _ (entry g (x * 2 ^ 7 + y)) (next-38 rm rl nm nl bm bl g c k x y) (read g (x * 2 ^ 7 + y)) (ended c _)
+
     -- 121 after 6
     reset-after : {ws out : List ℕ} {t : ChannelState} (bm bl x v : ℕ) → x < 128 → v < 128 → Gives c (waiting x bm bl (code-reset k)) ws out t
         → Gives c (on a1 a2 a3 a4 0 bm bl (code k)) (control g c n2 v2 ∷ control g c 6 x ∷ control g c 121 v ∷ ws) (controlWords g c 121 v ++ out) t
@@ -346,7 +351,7 @@ module _ (g c : ℕ) (hg : g < 16) (hc : c < 16) (k : Kind) (a1 a2 a3 a4 rm rl n
                 words-from
                 (hold bm bl x hx
                 (said g c hg hc 38 y (omega arith) hy _ (entry g (x * 2 ^ 7 + y)) (first-38 rm rl nm nl bm bl g c k x y) (read g (x * 2 ^ 7 + y))
-                (said-last g c hg hc 38 z (omega arith) hz _ (entry g (x * 2 ^ 7 + z)) (next-38 rm rl nm nl bm bl g c k x z) (read g (x * 2 ^ 7 + z)) (ended c _))));
+                (again bm bl x z hz)));
             no-value =
                 λ y hy.
                 words-from
@@ -375,6 +380,13 @@ module _ (g c : ℕ) (hg : g < 16) (hc : c < 16) (k : Kind) (a1 a2 a3 a4 rm rl n
                 let o : Formed q = all-formed r f (first ∷ control g c n2 v2 ∷ control g c 6 x ∷ []) in
                 flush-answer (flushedRecord q h c) (after-formed q o (flush h c)) h c hh hc
                 ∙ rw (flush-state q o h c hh hc, e, pending-sent rm rl nm nl bm bl k (x + 1), none-pending rm rl nm nl bm bl h c k (x + 1));
+            flushed-then-38 =
+                λ h x y hh hx hy.
+                let q = recordAfterAll r (first ∷ control g c n2 v2 ∷ control g c 6 x ∷ []) in
+                let e : stateOn q c ≡ waiting x bm bl (code-pending k) = hold bm bl x hx (ended c _) .leaves (recordAfter r first) after-first start in
+                let o : Formed q = all-formed r f (first ∷ control g c n2 v2 ∷ control g c 6 x ∷ []) in
+                again bm bl x y hy .gives (flushedRecord q h c) (after-formed q o (flush h c))
+                (flush-state q o h c hh hc ∙ ap pendingSent e ∙ pending-sent rm rl nm nl bm bl k (x + 1));
             reset-then-38 =
                 λ x v y z w hx hv hy hz hw.
                 words-from
@@ -558,6 +570,12 @@ module _ (r : Midi1ToMidi2Group) (f : Formed r) (g c : ℕ) (hg : g < 16) (hc : 
           record {
             sent-at-once =
                 λ x z hx hz. mcm-list (then-6 0 x hx (then-6 (x + 1) z hz (ended c _))) .gives (recordAfter r first) o start;
+            sent-again-by-38 =
+                λ x y hx hy.
+                mcm-list
+                (then-6 0 x hx
+                (said-last g c hg hc 38 y (omega arith) hy _ (registeredWords c 0 6 g (x * 2 ^ 7 + y)) (next-38 1 7 _ _ _ _ g c rpn x y) (mcm-read (x * 2 ^ 7 + y)) (ended c _)))
+                .gives (recordAfter r first) o start;
             not-pending =
                 λ h x hh hx.
                 let q = recordAfterAll r (first ∷ control g c n2 v2 ∷ control g c 6 x ∷ []) in

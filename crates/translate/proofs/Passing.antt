@@ -21,9 +21,9 @@ use Rattle.translate.specs.declared.Translation.the-variants.{Words, Not
 use Rattle.translate.specs.declared.Stepped.{Stepped}
 use Rattle.translate.specs.Translate.{translationRead, firstWord, controllerNumbered, controller, pendingWords, channelStep, enteredAfter, lsbEntered, passedOn, controlChanged, programWords, messageTranslated, withState, recordAfter, flushedRecord}
 use Rattle.translate.specs.Lists.{translate-words, control, Formed}
-use Rattle.translate.specs.Rules.{programChange, PassesAs, heldController, PassingRules, BankRules}
+use Rattle.translate.specs.Rules.{programChange, PassesAs, heldController, controlWords, PassingRules, BankRules}
 use Rattle.translate.proofs.Always.{on-other, after-formed}
-use Rattle.translate.proofs.Messages.{Fits, fits-8, fits-9, fits-A, fits-B, fits-C, fits-D, fits-E, answer-of, record-of, state-of, ended, message, silent}
+use Rattle.translate.proofs.Messages.{Fits, fits-8, fits-9, fits-A, fits-B, fits-C, fits-D, fits-E, answer-of, record-of, state-of, ended, message, said, silent}
 
 neither : (x y : Bool) → x || y ≡ false → (x ≡ false) × (y ≡ false)
 neither true y h = absurd (true≢false h)
@@ -114,6 +114,11 @@ module _ (g c : ℕ) (s : ChannelState) where
   unfolding controlChanged
   held-32 l h = rw (mod-eq-of-lt h)
 
+  -- 121 with a bank held
+  reset-with-bank : (m l v : ℕ) → controlChanged g c (withBank s m l) 121 v ≡ channelStep (withBank (controllersReset s) m l) (passedOn g c 0xB 121 v)
+  unfolding controlChanged controllersReset
+  reset-with-bank m l v = by-test (pendingIn (s .flags)) (λ e. rw e) (λ e. rw e)
+
 module _ (r : Midi1ToMidi2Group) (f : Formed r) (g c : ℕ) (hg : g < 16) (hc : c < 16) where
   -- after a program change no bank is held
   after-program : (q : ℕ) → q < 128 → stateOn (recordAfter r (programChange g c q)) c ≡ bankSent (stateOn r c)
@@ -134,6 +139,13 @@ module _ (r : Midi1ToMidi2Group) (f : Formed r) (g c : ℕ) (hg : g < 16) (hc : 
             λ m p hm hp.
             silent g c hg hc 0 m (omega arith) hm (held-0 g c (stateOn r c) m hm)
             (message g c 0xC p 0 (fits-C g c p hg hc hp) _ _ (with-msb g c (stateOn r c) p m) refl (ended c _))
+            .gives r f refl;
+        bank-kept-by-121 =
+            λ m l v p hm hl hv hp.
+            silent g c hg hc 0 m (omega arith) hm (held-0 g c (stateOn r c) m hm)
+            (silent g c hg hc 32 l (omega arith) hl (held-32 g c _ l hl)
+            (said g c hg hc 121 v (omega arith) hv _ (controlWords g c 121 v) (reset-with-bank g c (stateOn r c) (m + 1) (l + 1) v) refl
+            (message g c 0xC p 0 (fits-C g c p hg hc hp) _ _ (with-bank g c (controllersReset (stateOn r c)) p m l) refl (ended c _))))
             .gives r f refl;
         bank-lsb =
             λ q l p hq hl hp.

@@ -72,6 +72,10 @@ pub record BankRules (r : Midi1ToMidi2Group) (g c : ℕ) : Type 0 where
   -- an MSB sets the held LSB to 0
   pub bank-msb : (m p : ℕ) → m < 128 → p < 128
       → wordsFrom r (control g c 0 m ∷ programChange g c p ∷ []) ≡ firstWord g 0xC c 0 1 ∷ (p * 2 ^ 24 + m * 2 ^ 8) ∷ []
+  -- 121 leaves a held bank (D.3.4; RP-015)
+  pub bank-kept-by-121 : (m l v p : ℕ) → m < 128 → l < 128 → v < 128 → p < 128
+      → wordsFrom r (control g c 0 m ∷ control g c 32 l ∷ control g c 121 v ∷ programChange g c p ∷ [])
+      ≡ controlWords g c 121 v ++ (firstWord g 0xC c 0 1 ∷ (p * 2 ^ 24 + (m * 2 ^ 8 + l)) ∷ [])
   -- an LSB alone has MSB 0
   pub bank-lsb : (q l p : ℕ) → q < 128 → l < 128 → p < 128
       → wordsFrom (recordAfter r (programChange g c q)) (control g c 32 l ∷ programChange g c p ∷ [])
@@ -99,6 +103,9 @@ pub record EntryRules (r : Midi1ToMidi2Group) (g c first second : ℕ) (entry : 
       → flushReply (recordAfterAll r (first ∷ second ∷ control g c 6 x ∷ [])) h c ≡ given (entry h (x * 2 ^ 7))
   pub flushed-once : (h x : ℕ) → h < 16 → x < 128
       → flushReply (flushedRecord (recordAfterAll r (first ∷ second ∷ control g c 6 x ∷ [])) h c) h c ≡ given []
+  -- the MSB is held still: a 38 sends it again with its LSB
+  pub flushed-then-38 : (h x y : ℕ) → h < 16 → x < 128 → y < 128
+      → wordsFrom (flushedRecord (recordAfterAll r (first ∷ second ∷ control g c 6 x ∷ [])) h c) (control g c 38 y ∷ []) ≡ entry g (x * 2 ^ 7 + y)
   -- 121 passes on; what is pending is still sent, with LSB 0 even at 38, and then the number is null (RP-015)
   pub reset-then-38 : (x v y z w : ℕ) → x < 128 → v < 128 → y < 128 → z < 128 → w < 128
       → wordsFrom (recordAfter r first)
@@ -123,6 +130,10 @@ pub record McmRules (r : Midi1ToMidi2Group) (g c first second : ℕ) : Type 0 wh
   pub sent-at-once : (x z : ℕ) → x < 128 → z < 128
       → wordsFrom (recordAfter r first) (second ∷ control g c 6 x ∷ control g c 6 z ∷ [])
       ≡ registeredWords c 0 6 g (x * 2 ^ 7) ++ registeredWords c 0 6 g (z * 2 ^ 7)
+  -- the MSB is held still: a 38 sends it again with its LSB (D.3.3)
+  pub sent-again-by-38 : (x y : ℕ) → x < 128 → y < 128
+      → wordsFrom (recordAfter r first) (second ∷ control g c 6 x ∷ control g c 38 y ∷ [])
+      ≡ registeredWords c 0 6 g (x * 2 ^ 7) ++ registeredWords c 0 6 g (x * 2 ^ 7 + y)
   pub not-pending : (h x : ℕ) → h < 16 → x < 128
       → flushReply (recordAfterAll r (first ∷ second ∷ control g c 6 x ∷ [])) h c ≡ given []
 
