@@ -295,8 +295,8 @@ module _ (g c x y : ℕ) (hg : g < 16) (hc : c < 16) (hx : x < 128) (hy : y < 12
         rw e at (at halves (n - 98) (omega arith))
 
 -- a number that a second message completes, and its entries
-module _ (g c : ℕ) (hg : g < 16) (hc : c < 16) (k : Kind) (a1 a2 a3 a4 rm rl nm nl n2 v2 : ℕ) (hn : n2 < 128) (hv : v2 < 128)
-    (select : (d bm bl : ℕ) → controlChanged g c (on a1 a2 a3 a4 d bm bl (code k)) n2 v2 ≡ channelStep (on rm rl nm nl 0 bm bl (code k)) Nothing)
+module _ (g c : ℕ) (hg : g < 16) (hc : c < 16) (j k : Kind) (a1 a2 a3 a4 rm rl nm nl n2 v2 : ℕ) (hn : n2 < 128) (hv : v2 < 128)
+    (select : (d bm bl : ℕ) → controlChanged g c (on a1 a2 a3 a4 d bm bl (code j)) n2 v2 ≡ channelStep (on rm rl nm nl 0 bm bl (code k)) Nothing)
     (no-mcm : mcmOf rm rl nm nl k ≡ false)
     (entry : ℕ → ℕ → List ℕ)
     (read : (h v : ℕ) → translationRead (sent rm rl nm nl k h c v) ≡ given (entry h v))
@@ -304,10 +304,10 @@ module _ (g c : ℕ) (hg : g < 16) (hc : c < 16) (k : Kind) (a1 a2 a3 a4 rm rl n
     abbrev waiting : ℕ → ℕ → ℕ → ℕ → ChannelState
     waiting x bm bl f = on rm rl nm nl (x + 1) bm bl f
 
-    hold : {ws out : List ℕ} {t : ChannelState} (bm bl x : ℕ) → x < 128 → Gives c (waiting x bm bl (code-pending k)) ws out t
-        → Gives c (on a1 a2 a3 a4 0 bm bl (code k)) (control g c n2 v2 ∷ control g c 6 x ∷ ws) out t
-    hold bm bl x h rest =
-        silent g c hg hc n2 v2 hn hv (select 0 bm bl)
+    hold : {ws out : List ℕ} {t : ChannelState} (d bm bl x : ℕ) → x < 128 → Gives c (waiting x bm bl (code-pending k)) ws out t
+        → Gives c (on a1 a2 a3 a4 d bm bl (code j)) (control g c n2 v2 ∷ control g c 6 x ∷ ws) out t
+    hold d bm bl x h rest =
+        silent g c hg hc n2 v2 hn hv (select d bm bl)
         (silent g c hg hc 6 x (omega arith) h (first-6 rm rl nm nl bm bl g c k 0 x h no-mcm) rest)
 
     read-pending : (bm bl h x : ℕ) → translationRead (pendingWords h c (waiting x bm bl (code-pending k))) ≡ given (entry h (x * 2 ^ 7))
@@ -321,99 +321,103 @@ module _ (g c : ℕ) (hg : g < 16) (hc : c < 16) (k : Kind) (a1 a2 a3 a4 rm rl n
     complete bm bl x y h =
         said-last g c hg hc 38 y (omega arith) h _ (entry g (x * 2 ^ 7 + y)) (first-38 rm rl nm nl bm bl g c k x y) (read g (x * 2 ^ 7 + y)) (ended c _)
 
+    entry-of : (d bm bl x y : ℕ) → x < 128 → y < 128
+        → Gives c (on a1 a2 a3 a4 d bm bl (code j)) (control g c n2 v2 ∷ control g c 6 x ∷ control g c 38 y ∷ []) (entry g (x * 2 ^ 7 + y)) (waiting x bm bl (code k))
+    entry-of d bm bl x y hx hy = hold d bm bl x hx (complete bm bl x y hy)
+
     -- 38 once more
     again : (bm bl x y : ℕ) → y < 128 → Gives c (waiting x bm bl (code k)) (control g c 38 y ∷ []) (entry g (x * 2 ^ 7 + y)) (waiting x bm bl (code k))
     again bm bl x y h =
         said-last g c hg hc 38 y (omega arith) h _ (entry g (x * 2 ^ 7 + y)) (next-38 rm rl nm nl bm bl g c k x y) (read g (x * 2 ^ 7 + y)) (ended c _)
 
     -- 121 after 6
-    reset-after : {ws out : List ℕ} {t : ChannelState} (bm bl x v : ℕ) → x < 128 → v < 128 → Gives c (waiting x bm bl (code-reset k)) ws out t
-        → Gives c (on a1 a2 a3 a4 0 bm bl (code k)) (control g c n2 v2 ∷ control g c 6 x ∷ control g c 121 v ∷ ws) (controlWords g c 121 v ++ out) t
-    reset-after bm bl x v hx hv rest =
-        hold bm bl x hx
+    reset-after : {ws out : List ℕ} {t : ChannelState} (d bm bl x v : ℕ) → x < 128 → v < 128 → Gives c (waiting x bm bl (code-reset k)) ws out t
+        → Gives c (on a1 a2 a3 a4 d bm bl (code j)) (control g c n2 v2 ∷ control g c 6 x ∷ control g c 121 v ∷ ws) (controlWords g c 121 v ++ out) t
+    reset-after d bm bl x v hx hv rest =
+        hold d bm bl x hx
         (said g c hg hc 121 v (omega arith) hv _ (controlWords g c 121 v) (reset-pending rm rl nm nl bm bl g c k (x + 1) v) refl rest)
 
-    module _ (r : Midi1ToMidi2Group) (f : Formed r) (first bm bl : ℕ) (start : stateOn (recordAfter r first) c ≡ on a1 a2 a3 a4 0 bm bl (code k)) where
+    module _ (r : Midi1ToMidi2Group) (f : Formed r) (first d bm bl : ℕ) (start : stateOn (recordAfter r first) c ≡ on a1 a2 a3 a4 d bm bl (code j)) where
       after-first : Formed (recordAfter r first)
       after-first = after-formed r f (translate-words first)
 
       -- the words and the state of a list from there
-      words-from : {ws out : List ℕ} {t : ChannelState} → Gives c (on a1 a2 a3 a4 0 bm bl (code k)) ws out t → wordsFrom (recordAfter r first) ws ≡ out
+      words-from : {ws out : List ℕ} {t : ChannelState} → Gives c (on a1 a2 a3 a4 d bm bl (code j)) ws out t → wordsFrom (recordAfter r first) ws ≡ out
       words-from all = all .gives (recordAfter r first) after-first start
 
       entry-rules : EntryRules r g c first (control g c n2 v2) entry
       unfolding translatorAfterAll
       entry-rules =
           record {
-            completed-by-38 = λ x y hx hy. words-from (hold bm bl x hx (complete bm bl x y hy));
+            completed-by-38 = λ x y hx hy. words-from (entry-of d bm bl x y hx hy);
             again-by-38 =
                 λ x y z hx hy hz.
                 words-from
-                (hold bm bl x hx
+                (hold d bm bl x hx
                 (said g c hg hc 38 y (omega arith) hy _ (entry g (x * 2 ^ 7 + y)) (first-38 rm rl nm nl bm bl g c k x y) (read g (x * 2 ^ 7 + y))
                 (again bm bl x z hz)));
             no-value =
                 λ y hy.
                 words-from
-                (silent g c hg hc n2 v2 hn hv (select 0 bm bl)
+                (silent g c hg hc n2 v2 hn hv (select d bm bl)
                 (silent g c hg hc 38 y (omega arith) hy (none-38 rm rl nm nl bm bl g c k y) (ended c _)));
             ended-by-6 =
                 λ x z w hx hz hw.
                 words-from
-                (hold bm bl x hx
+                (hold d bm bl x hx
                 (said g c hg hc 6 z (omega arith) hz _ (entry g (x * 2 ^ 7)) (next-6 rm rl nm nl bm bl g c k x z hz no-mcm) (read g (x * 2 ^ 7))
                 (complete bm bl z w hw)));
             ended-by-number =
                 λ x n v hx l h hv.
                 words-from
-                (hold bm bl x hx
+                (hold d bm bl x hx
                 (said-last g c hg hc n v (omega arith) hv _ (entry g (x * 2 ^ 7)) (number g c (waiting x bm bl (code-pending k)) n v l h) (read-pending bm bl g x) (ended c _)));
             flushed =
                 λ h x hh hx.
                 let q = recordAfterAll r (first ∷ control g c n2 v2 ∷ control g c 6 x ∷ []) in
-                let e : stateOn q c ≡ waiting x bm bl (code-pending k) = hold bm bl x hx (ended c _) .leaves (recordAfter r first) after-first start in
+                let e : stateOn q c ≡ waiting x bm bl (code-pending k) = hold d bm bl x hx (ended c _) .leaves (recordAfter r first) after-first start in
                 flush-answer q (all-formed r f (first ∷ control g c n2 v2 ∷ control g c 6 x ∷ [])) h c hh hc ∙ rw e (read-pending bm bl h x);
             flushed-once =
                 λ h x hh hx.
                 let q = recordAfterAll r (first ∷ control g c n2 v2 ∷ control g c 6 x ∷ []) in
-                let e : stateOn q c ≡ waiting x bm bl (code-pending k) = hold bm bl x hx (ended c _) .leaves (recordAfter r first) after-first start in
+                let e : stateOn q c ≡ waiting x bm bl (code-pending k) = hold d bm bl x hx (ended c _) .leaves (recordAfter r first) after-first start in
                 let o : Formed q = all-formed r f (first ∷ control g c n2 v2 ∷ control g c 6 x ∷ []) in
                 flush-answer (flushedRecord q h c) (after-formed q o (flush h c)) h c hh hc
                 ∙ rw (flush-state q o h c hh hc, e, pending-sent rm rl nm nl bm bl k (x + 1), none-pending rm rl nm nl bm bl h c k (x + 1));
             flushed-then-38 =
                 λ h x y hh hx hy.
                 let q = recordAfterAll r (first ∷ control g c n2 v2 ∷ control g c 6 x ∷ []) in
-                let e : stateOn q c ≡ waiting x bm bl (code-pending k) = hold bm bl x hx (ended c _) .leaves (recordAfter r first) after-first start in
+                let e : stateOn q c ≡ waiting x bm bl (code-pending k) = hold d bm bl x hx (ended c _) .leaves (recordAfter r first) after-first start in
                 let o : Formed q = all-formed r f (first ∷ control g c n2 v2 ∷ control g c 6 x ∷ []) in
                 again bm bl x y hy .gives (flushedRecord q h c) (after-formed q o (flush h c))
                 (flush-state q o h c hh hc ∙ ap pendingSent e ∙ pending-sent rm rl nm nl bm bl k (x + 1));
             reset-then-38 =
                 λ x v y z w hx hv hy hz hw.
                 words-from
-                (reset-after bm bl x v hx hv
+                (reset-after d bm bl x v hx hv
                 (said-last g c hg hc 38 y (omega arith) hy _ (entry g (x * 2 ^ 7)) (reset-38 rm rl nm nl bm bl g c k x y) (read g (x * 2 ^ 7))
                 (null-entry g c hg hc k bm bl (x + 1) z w hz hw)));
             reset-then-6 =
                 λ x v z w hx hv hz hw.
                 words-from
-                (reset-after bm bl x v hx hv
+                (reset-after d bm bl x v hx hv
                 (said-last g c hg hc 6 z (omega arith) hz _ (entry g (x * 2 ^ 7)) (reset-6 rm rl nm nl bm bl g c k x z hz) (read g (x * 2 ^ 7))
                 (null-38 g c hg hc k bm bl z w hw)));
             reset-then-number =
                 λ x v n u hx hv l h hu.
                 words-from
-                (reset-after bm bl x v hx hv
+                (reset-after d bm bl x v hx hv
                 (said-last g c hg hc n u (omega arith) hu _ (entry g (x * 2 ^ 7)) (number g c (waiting x bm bl (code-reset k)) n u l h) (read-reset bm bl g x) (ended c _)));
             reset-then-flushed =
                 λ h x v hh hx hv.
                 let q = recordAfterAll r (first ∷ control g c n2 v2 ∷ control g c 6 x ∷ control g c 121 v ∷ []) in
-                let e : stateOn q c ≡ waiting x bm bl (code-reset k) = reset-after bm bl x v hx hv (ended c _) .leaves (recordAfter r first) after-first start in
+                let e : stateOn q c ≡ waiting x bm bl (code-reset k) = reset-after d bm bl x v hx hv (ended c _) .leaves (recordAfter r first) after-first start in
                 flush-answer q (all-formed r f (first ∷ control g c n2 v2 ∷ control g c 6 x ∷ control g c 121 v ∷ [])) h c hh hc ∙ rw e (read-reset bm bl h x);
             beside-bank =
                 λ b x a p y hb hx ha hp hy.
                 words-from
-                (silent g c hg hc 0 b (omega arith) hb (held-0 g c (on a1 a2 a3 a4 0 bm bl (code k)) b hb)
-                (hold (b + 1) 1 x hx
+                (silent g c hg hc 0 b (omega arith) hb (held-0 g c (on a1 a2 a3 a4 d bm bl (code j)) b hb)
+                (hold d (b + 1) 1 x hx
                 (silent g c hg hc 32 a (omega arith) ha (held-32 g c (waiting x (b + 1) 1 (code-pending k)) a ha)
                 (message g c 0xC p 0 (fits-C g c p hg hc hp) _ (firstWord g 0xC c 0 1 ∷ (p * 2 ^ 24 + (b * 2 ^ 8 + a)) ∷ []) (with-bank g c (waiting x 0 0 (code-pending k)) p b a) refl
                 (complete 0 0 x y hy)))));
@@ -441,23 +445,29 @@ module _ (p : ChannelState) (e : p .flags / 4 ≡ 0) where
   unfolding selected
   selected-98 v h = rw (mod-eq-of-lt h, e)
 
--- the second half, with nothing pending
-module _ (g c rm rl nm nl d bm bl v : ℕ) (h : v < 128) where
-  second-101 : controlChanged g c (on rm rl nm nl d bm bl 1) 101 v ≡ channelStep (on (v + 1) rl nm nl 0 bm bl 1) Nothing
-  unfolding controlChanged selected pendingSent pendingWords
-  second-101 = rw (mod-eq-of-lt h)
+-- a half with nothing pending, whichever kind was selected
+code-alone : (k : Kind) → code k / 4 ≡ 0
+code-alone none = refl
+code-alone rpn = refl
+code-alone nrpn = refl
 
-  second-100 : controlChanged g c (on rm rl nm nl d bm bl 1) 100 v ≡ channelStep (on rm (v + 1) nm nl 0 bm bl 1) Nothing
-  unfolding controlChanged selected pendingSent pendingWords
-  second-100 = rw (mod-eq-of-lt h)
+module _ (g c rm rl nm nl d bm bl v : ℕ) (k : Kind) (h : v < 128) where
+  half-after : (n : ℕ) → 98 ≤ n → n ≤ 101 → (t : ChannelState) → selected (on rm rl nm nl d bm bl (code k)) n v ≡ t
+      → controlChanged g c (on rm rl nm nl d bm bl (code k)) n v ≡ channelStep t Nothing
+  half-after n l u t e =
+      number g c _ n v l u ∙ rw (none-sent rm rl nm nl bm bl k d, none-pending rm rl nm nl bm bl g c k d, e)
 
-  second-99 : controlChanged g c (on rm rl nm nl d bm bl 2) 99 v ≡ channelStep (on rm rl (v + 1) nl 0 bm bl 2) Nothing
-  unfolding controlChanged selected pendingSent pendingWords
-  second-99 = rw (mod-eq-of-lt h)
+  second-101 : controlChanged g c (on rm rl nm nl d bm bl (code k)) 101 v ≡ channelStep (on (v + 1) rl nm nl 0 bm bl 1) Nothing
+  second-101 = half-after 101 (omega arith) (omega arith) _ (selected-101 _ (code-alone k) v h)
 
-  second-98 : controlChanged g c (on rm rl nm nl d bm bl 2) 98 v ≡ channelStep (on rm rl nm (v + 1) 0 bm bl 2) Nothing
-  unfolding controlChanged selected pendingSent pendingWords
-  second-98 = rw (mod-eq-of-lt h)
+  second-100 : controlChanged g c (on rm rl nm nl d bm bl (code k)) 100 v ≡ channelStep (on rm (v + 1) nm nl 0 bm bl 1) Nothing
+  second-100 = half-after 100 (omega arith) (omega arith) _ (selected-100 _ (code-alone k) v h)
+
+  second-99 : controlChanged g c (on rm rl nm nl d bm bl (code k)) 99 v ≡ channelStep (on rm rl (v + 1) nl 0 bm bl 2) Nothing
+  second-99 = half-after 99 (omega arith) (omega arith) _ (selected-99 _ (code-alone k) v h)
+
+  second-98 : controlChanged g c (on rm rl nm nl d bm bl (code k)) 98 v ≡ channelStep (on rm rl nm (v + 1) 0 bm bl 2) Nothing
+  second-98 = half-after 98 (omega arith) (omega arith) _ (selected-98 _ (code-alone k) v h)
 
 -- a number that is not null, and one that is not 0/6
 module _ (m l : ℕ) where
@@ -479,6 +489,32 @@ module _ (m l : ℕ) where
       let i : m + 1 ≡ 128 = eqb-true (m + 1) 128 e in
       rw (e, ne-eqb (l + 1) 128 (λ j. n (omega arith, omega arith))))
       (λ e. rw e))
+
+-- the entry of a number that one half completes, whichever kind was selected
+module _ (g c : ℕ) (hg : g < 16) (hc : c < 16) (m l x y : ℕ) (hm : m < 128) (hl : l < 128) (hx : x < 128) (hy : y < 128) (j : Kind) where
+  by-101 : (NullNumber m l → ⊥) → (McmNumber m l → ⊥) → (rm nm nl d bm bl : ℕ)
+      → Gives c (on rm (l + 1) nm nl d bm bl (code j)) (control g c 101 m ∷ control g c 6 x ∷ control g c 38 y ∷ []) (registeredWords c m l g (x * 2 ^ 7 + y)) (on (m + 1) (l + 1) nm nl (x + 1) bm bl 1)
+  by-101 n o rm nm nl d bm bl =
+      entry-of g c hg hc j rpn rm (l + 1) nm nl (m + 1) (l + 1) nm nl 101 m (omega arith) hm (λ d bm bl. second-101 g c _ _ _ _ d bm bl m j hm) (not-mcm m l o) (registeredWords c m l)
+      (λ h v. rw (sent-of m l n h 0x2 c v)) d bm bl x y hx hy
+
+  by-100 : (NullNumber m l → ⊥) → (McmNumber m l → ⊥) → (rl nm nl d bm bl : ℕ)
+      → Gives c (on (m + 1) rl nm nl d bm bl (code j)) (control g c 100 l ∷ control g c 6 x ∷ control g c 38 y ∷ []) (registeredWords c m l g (x * 2 ^ 7 + y)) (on (m + 1) (l + 1) nm nl (x + 1) bm bl 1)
+  by-100 n o rl nm nl d bm bl =
+      entry-of g c hg hc j rpn (m + 1) rl nm nl (m + 1) (l + 1) nm nl 100 l (omega arith) hl (λ d bm bl. second-100 g c _ _ _ _ d bm bl l j hl) (not-mcm m l o) (registeredWords c m l)
+      (λ h v. rw (sent-of m l n h 0x2 c v)) d bm bl x y hx hy
+
+  by-99 : (NullNumber m l → ⊥) → (rm rl nm d bm bl : ℕ)
+      → Gives c (on rm rl nm (l + 1) d bm bl (code j)) (control g c 99 m ∷ control g c 6 x ∷ control g c 38 y ∷ []) (assignableWords c m l g (x * 2 ^ 7 + y)) (on rm rl (m + 1) (l + 1) (x + 1) bm bl 2)
+  by-99 n rm rl nm d bm bl =
+      entry-of g c hg hc j nrpn rm rl nm (l + 1) rm rl (m + 1) (l + 1) 99 m (omega arith) hm (λ d bm bl. second-99 g c _ _ _ _ d bm bl m j hm) refl (assignableWords c m l)
+      (λ h v. rw (sent-of m l n h 0x3 c v)) d bm bl x y hx hy
+
+  by-98 : (NullNumber m l → ⊥) → (rm rl nl d bm bl : ℕ)
+      → Gives c (on rm rl (m + 1) nl d bm bl (code j)) (control g c 98 l ∷ control g c 6 x ∷ control g c 38 y ∷ []) (assignableWords c m l g (x * 2 ^ 7 + y)) (on rm rl (m + 1) (l + 1) (x + 1) bm bl 2)
+  by-98 n rm rl nl d bm bl =
+      entry-of g c hg hc j nrpn rm rl (m + 1) nl rm rl (m + 1) (l + 1) 98 l (omega arith) hl (λ d bm bl. second-98 g c _ _ _ _ d bm bl l j hl) refl (assignableWords c m l)
+      (λ h v. rw (sent-of m l n h 0x3 c v)) d bm bl x y hx hy
 
 module _ (r : Midi1ToMidi2Group) (f : Formed r) (g c : ℕ) (hg : g < 16) (hc : c < 16) where
   abbrev before : ChannelState
@@ -511,35 +547,35 @@ module _ (r : Midi1ToMidi2Group) (f : Formed r) (g c : ℕ) (hg : g < 16) (hc : 
   module _ (m l : ℕ) (hm : m < 128) (hl : l < 128) where
     pub registered-entries : (NullNumber m l → ⊥) → (McmNumber m l → ⊥) → EntryRules r g c (control g c 101 m) (control g c 100 l) (registeredWords c m l)
     registered-entries n o =
-        entry-rules g c hg hc rpn (m + 1) _ _ _ (m + 1) (l + 1) _ _ 100 l (omega arith) hl (λ d bm bl. second-100 g c _ _ _ _ d bm bl l hl) (not-mcm m l o) _
-        (λ h v. rw (sent-of m l n h 0x2 c v)) r f _ _ _ (half-101 m hm)
+        entry-rules g c hg hc rpn rpn (m + 1) _ _ _ (m + 1) (l + 1) _ _ 100 l (omega arith) hl (λ d bm bl. second-100 g c _ _ _ _ d bm bl l rpn hl) (not-mcm m l o) _
+        (λ h v. rw (sent-of m l n h 0x2 c v)) r f _ 0 _ _ (half-101 m hm)
 
     pub registered-entries-lsb-first : (NullNumber m l → ⊥) → (McmNumber m l → ⊥) → EntryRules r g c (control g c 100 l) (control g c 101 m) (registeredWords c m l)
     registered-entries-lsb-first n o =
-        entry-rules g c hg hc rpn _ (l + 1) _ _ (m + 1) (l + 1) _ _ 101 m (omega arith) hm (λ d bm bl. second-101 g c _ _ _ _ d bm bl m hm) (not-mcm m l o) _
-        (λ h v. rw (sent-of m l n h 0x2 c v)) r f _ _ _ (half-100 l hl)
+        entry-rules g c hg hc rpn rpn _ (l + 1) _ _ (m + 1) (l + 1) _ _ 101 m (omega arith) hm (λ d bm bl. second-101 g c _ _ _ _ d bm bl m rpn hm) (not-mcm m l o) _
+        (λ h v. rw (sent-of m l n h 0x2 c v)) r f _ 0 _ _ (half-100 l hl)
 
     pub assignable-entries : (NullNumber m l → ⊥) → EntryRules r g c (control g c 99 m) (control g c 98 l) (assignableWords c m l)
     assignable-entries n =
-        entry-rules g c hg hc nrpn _ _ (m + 1) _ _ _ (m + 1) (l + 1) 98 l (omega arith) hl (λ d bm bl. second-98 g c _ _ _ _ d bm bl l hl) refl _
-        (λ h v. rw (sent-of m l n h 0x3 c v)) r f _ _ _ (half-99 m hm)
+        entry-rules g c hg hc nrpn nrpn _ _ (m + 1) _ _ _ (m + 1) (l + 1) 98 l (omega arith) hl (λ d bm bl. second-98 g c _ _ _ _ d bm bl l nrpn hl) refl _
+        (λ h v. rw (sent-of m l n h 0x3 c v)) r f _ 0 _ _ (half-99 m hm)
 
     pub assignable-entries-lsb-first : (NullNumber m l → ⊥) → EntryRules r g c (control g c 98 l) (control g c 99 m) (assignableWords c m l)
     assignable-entries-lsb-first n =
-        entry-rules g c hg hc nrpn _ _ _ (l + 1) _ _ (m + 1) (l + 1) 99 m (omega arith) hm (λ d bm bl. second-99 g c _ _ _ _ d bm bl m hm) refl _
-        (λ h v. rw (sent-of m l n h 0x3 c v)) r f _ _ _ (half-98 l hl)
+        entry-rules g c hg hc nrpn nrpn _ _ _ (l + 1) _ _ (m + 1) (l + 1) 99 m (omega arith) hm (λ d bm bl. second-99 g c _ _ _ _ d bm bl m nrpn hm) refl _
+        (λ h v. rw (sent-of m l n h 0x3 c v)) r f _ 0 _ _ (half-98 l hl)
 
   pub registered-null-entries : EntryRules r g c (control g c 101 0x7F) (control g c 100 0x7F) (λ h v. [])
   unfolding controllerNumbered
   registered-null-entries =
-      entry-rules g c hg hc rpn 128 _ _ _ 128 128 _ _ 100 0x7F (omega arith) (omega arith) (λ d bm bl. second-100 g c _ _ _ _ d bm bl 0x7F (omega arith)) refl _
-      (λ h v. refl) r f _ _ _ (half-101 0x7F (omega arith))
+      entry-rules g c hg hc rpn rpn 128 _ _ _ 128 128 _ _ 100 0x7F (omega arith) (omega arith) (λ d bm bl. second-100 g c _ _ _ _ d bm bl 0x7F rpn (omega arith)) refl _
+      (λ h v. refl) r f _ 0 _ _ (half-101 0x7F (omega arith))
 
   pub assignable-null-entries : EntryRules r g c (control g c 99 0x7F) (control g c 98 0x7F) (λ h v. [])
   unfolding controllerNumbered
   assignable-null-entries =
-      entry-rules g c hg hc nrpn _ _ 128 _ _ _ 128 128 98 0x7F (omega arith) (omega arith) (λ d bm bl. second-98 g c _ _ _ _ d bm bl 0x7F (omega arith)) refl _
-      (λ h v. refl) r f _ _ _ (half-99 0x7F (omega arith))
+      entry-rules g c hg hc nrpn nrpn _ _ 128 _ _ _ 128 128 98 0x7F (omega arith) (omega arith) (λ d bm bl. second-98 g c _ _ _ _ d bm bl 0x7F nrpn (omega arith)) refl _
+      (λ h v. refl) r f _ 0 _ _ (half-99 0x7F (omega arith))
 
   -- RPN 0/6, with nothing pending
   abbrev mcm-state : ℕ → ChannelState
@@ -586,26 +622,98 @@ module _ (r : Midi1ToMidi2Group) (f : Formed r) (g c : ℕ) (hg : g < 16) (hc : 
 
   pub mcm-entries : McmRules r g c (control g c 101 0) (control g c 100 6)
   mcm-entries =
-      mcm-rules (control g c 101 0) 100 6 (omega arith) (omega arith) _ (half-101 0 (omega arith)) (second-100 g c _ _ _ _ _ _ _ 6 (omega arith))
+      mcm-rules (control g c 101 0) 100 6 (omega arith) (omega arith) _ (half-101 0 (omega arith)) (second-100 g c _ _ _ _ _ _ _ 6 rpn (omega arith))
 
   pub mcm-entries-lsb-first : McmRules r g c (control g c 100 6) (control g c 101 0)
   mcm-entries-lsb-first =
-      mcm-rules (control g c 100 6) 101 0 (omega arith) (omega arith) _ (half-100 6 (omega arith)) (second-101 g c _ _ _ _ _ _ _ 0 (omega arith))
+      mcm-rules (control g c 100 6) 101 0 (omega arith) (omega arith) _ (half-100 6 (omega arith)) (second-101 g c _ _ _ _ _ _ _ 0 rpn (omega arith))
 
   -- 121 after `flush`
-  null-at-once : (k : Kind) (v x y : ℕ) → v < 128 → x < 128 → y < 128 → before .flags ≡ code k
-      → Gives c before (control g c 121 v ∷ control g c 6 x ∷ control g c 38 y ∷ []) (controlWords g c 121 v) (nulled (x + 1) (before .«bank_msb») (before .«bank_lsb») (code k))
-  null-at-once k v x y hv hx hy e =
-      let i : before ≡ on (before .«rpn_msb») (before .«rpn_lsb») (before .«nrpn_msb») (before .«nrpn_lsb») (before .«data_msb») (before .«bank_msb») (before .«bank_lsb») (code k) =
-      λ j.
-      on (before .«rpn_msb») (before .«rpn_lsb») (before .«nrpn_msb») (before .«nrpn_lsb») (before .«data_msb») (before .«bank_msb») (before .«bank_lsb») (e j) in
-      said-last g c hg hc 121 v (omega arith) hv _ (controlWords g c 121 v)
-      (ap (λ q. controlChanged g c q 121 v) i ∙ reset-at-once _ _ _ _ _ _ g c k _ v) refl
-      (null-entry g c hg hc k (before .«bank_msb») (before .«bank_lsb») (before .«data_msb») x y hx hy)
+  kind-before : KindOf (before .flags)
+  kind-before = at kinds (before .flags) (omega (arith, alone)) (sent-kept (stateOn r c) (on-allowed r f c hc) .flags-of)
 
-  pub null-after-flush : (h v x y : ℕ) → h < 16 → v < 128 → x < 128 → y < 128
-      → wordsFrom (flushedRecord r h c) (control g c 121 v ∷ control g c 6 x ∷ control g c 38 y ∷ []) ≡ controlWords g c 121 v
-  null-after-flush h v x y hh hv hx hy =
-      let a = sent-kept (stateOn r c) (on-allowed r f c hc) .flags-of in
-      let k : KindOf (before .flags) = at kinds (before .flags) (omega (arith, alone)) a in
-      null-at-once (k .kind) v x y hv hx hy (k .is) .gives (flushedRecord r h c) (after-formed r f (flush h c)) (flush-state r f h c hh hc)
+  module _ (h v : ℕ) (hh : h < 16) (hv : v < 128) where
+    after-reset : {ws out : List ℕ} {t : ChannelState}
+        → Gives c (nulled (before .«data_msb») (before .«bank_msb») (before .«bank_lsb») (code (kind-before .kind))) ws out t
+        → wordsFrom (flushedRecord r h c) (control g c 121 v ∷ ws) ≡ controlWords g c 121 v ++ out
+    after-reset rest =
+        let i : before ≡ on (before .«rpn_msb») (before .«rpn_lsb») (before .«nrpn_msb») (before .«nrpn_lsb») (before .«data_msb») (before .«bank_msb») (before .«bank_lsb») (code (kind-before .kind)) =
+        λ j.
+        on (before .«rpn_msb») (before .«rpn_lsb») (before .«nrpn_msb») (before .«nrpn_lsb») (before .«data_msb») (before .«bank_msb») (before .«bank_lsb») (kind-before .is j) in
+        said g c hg hc 121 v (omega arith) hv _ (controlWords g c 121 v)
+        (ap (λ q. controlChanged g c q 121 v) i ∙ reset-at-once _ _ _ _ _ _ g c (kind-before .kind) _ v) refl rest
+        .gives (flushedRecord r h c) (after-formed r f (flush h c)) (flush-state r f h c hh hc)
+
+    module _ (x y : ℕ) (hx : x < 128) (hy : y < 128) where
+      pub null-after-flush : wordsFrom (flushedRecord r h c) (control g c 121 v ∷ control g c 6 x ∷ control g c 38 y ∷ []) ≡ controlWords g c 121 v
+      null-after-flush = after-reset (null-entry g c hg hc (kind-before .kind) _ _ _ x y hx hy)
+
+      module _ (u : ℕ) (hu : u < 128) (other : u ≡ 0x7F → ⊥) where
+        abbrev HalfGives : ℕ → List ℕ → Type 0
+        HalfGives n words =
+            wordsFrom (flushedRecord r h c) (control g c 121 v ∷ control g c n u ∷ control g c 6 x ∷ control g c 38 y ∷ []) ≡ controlWords g c 121 v ++ words
+
+        pub null-then-101 : HalfGives 101 (registeredWords c u 0x7F g (x * 2 ^ 7 + y))
+        null-then-101 =
+            after-reset (by-101 g c hg hc u 0x7F x y hu (omega arith) hx hy (kind-before .kind) (λ e. other (e .0)) (λ e. omega (arith, e .1)) 128 128 128 _ _ _)
+
+        pub null-then-100 : HalfGives 100 (registeredWords c 0x7F u g (x * 2 ^ 7 + y))
+        null-then-100 =
+            after-reset (by-100 g c hg hc 0x7F u x y (omega arith) hu hx hy (kind-before .kind) (λ e. other (e .1)) (λ e. omega (arith, e .0)) 128 128 128 _ _ _)
+
+        pub null-then-99 : HalfGives 99 (assignableWords c u 0x7F g (x * 2 ^ 7 + y))
+        null-then-99 = after-reset (by-99 g c hg hc u 0x7F x y hu (omega arith) hx hy (kind-before .kind) (λ e. other (e .0)) 128 128 128 _ _ _)
+
+        pub null-then-98 : HalfGives 98 (assignableWords c 0x7F u g (x * 2 ^ 7 + y))
+        null-then-98 = after-reset (by-98 g c hg hc 0x7F u x y (omega arith) hu hx hy (kind-before .kind) (λ e. other (e .1)) 128 128 128 _ _ _)
+
+  -- 38 after half a number
+  module _ (v y : ℕ) (hv : v < 128) (hy : y < 128) where
+    abbrev NoMsb : ℕ → Type 0
+    NoMsb n = wordsFrom (recordAfter r (control g c n v)) (control g c 38 y ∷ []) ≡ []
+
+    no-msb : (n : ℕ) (k : Kind) (rm rl nm nl bm bl : ℕ) → stateOn (recordAfter r (control g c n v)) c ≡ on rm rl nm nl 0 bm bl (code k) → NoMsb n
+    no-msb n k rm rl nm nl bm bl e =
+        silent g c hg hc 38 y (omega arith) hy (none-38 rm rl nm nl bm bl g c k y) (ended c _)
+        .gives (recordAfter r (control g c n v)) (after-formed r f (translate-words (control g c n v))) e
+
+    no-msbs : Each (λ n. NoMsb (98 + n)) 4
+    no-msbs =
+        nothing
+        and no-msb 98 nrpn _ _ _ _ _ _ (half-98 v hv)
+        and no-msb 99 nrpn _ _ _ _ _ _ (half-99 v hv)
+        and no-msb 100 rpn _ _ _ _ _ _ (half-100 v hv)
+        and no-msb 101 rpn _ _ _ _ _ _ (half-101 v hv)
+
+    pub msb-ended : (n : ℕ) → 98 ≤ n → n ≤ 101 → NoMsb n
+    msb-ended n l h =
+        let e : 98 + (n - 98) ≡ n = omega arith in
+        rw e at (at no-msbs (n - 98) (omega arith))
+
+  -- a number of each kind, and then half of the one before
+  module _ (m l a b : ℕ) (hm : m < 128) (hl : l < 128) (ha : a < 128) (hb : b < 128) (k x y : ℕ) (hk : k < 128) (hx : x < 128) (hy : y < 128) where
+    pub other-kept-registered : (NullNumber m k → ⊥) → (McmNumber m k → ⊥)
+        → wordsFrom (recordAfterAll r (control g c 101 m ∷ control g c 100 l ∷ control g c 99 a ∷ control g c 98 b ∷ []))
+        (control g c 100 k ∷ control g c 6 x ∷ control g c 38 y ∷ [])
+        ≡ registeredWords c m k g (x * 2 ^ 7 + y)
+    unfolding translatorAfterAll
+    other-kept-registered n o =
+        by-100 g c hg hc m k x y hm hk hx hy nrpn n o (l + 1) (a + 1) (b + 1) 0 (before .«bank_msb») (before .«bank_lsb»)
+        .gives _ (all-formed r f (control g c 101 m ∷ control g c 100 l ∷ control g c 99 a ∷ control g c 98 b ∷ []))
+        (silent g c hg hc 100 l (omega arith) hl (second-100 g c _ _ _ _ _ _ _ l rpn hl)
+        (silent g c hg hc 99 a (omega arith) ha (second-99 g c _ _ _ _ _ _ _ a rpn ha)
+        (silent g c hg hc 98 b (omega arith) hb (second-98 g c _ _ _ _ _ _ _ b nrpn hb) (ended c _)))
+        .leaves (recordAfter r (control g c 101 m)) (after-formed r f (translate-words (control g c 101 m))) (half-101 m hm))
+
+    pub other-kept-assignable : (NullNumber a k → ⊥)
+        → wordsFrom (recordAfterAll r (control g c 99 a ∷ control g c 98 b ∷ control g c 101 m ∷ control g c 100 l ∷ []))
+        (control g c 98 k ∷ control g c 6 x ∷ control g c 38 y ∷ [])
+        ≡ assignableWords c a k g (x * 2 ^ 7 + y)
+    unfolding translatorAfterAll
+    other-kept-assignable n =
+        by-98 g c hg hc a k x y ha hk hx hy rpn n (m + 1) (l + 1) (b + 1) 0 (before .«bank_msb») (before .«bank_lsb»)
+        .gives _ (all-formed r f (control g c 99 a ∷ control g c 98 b ∷ control g c 101 m ∷ control g c 100 l ∷ []))
+        (silent g c hg hc 98 b (omega arith) hb (second-98 g c _ _ _ _ _ _ _ b nrpn hb)
+        (silent g c hg hc 101 m (omega arith) hm (second-101 g c _ _ _ _ _ _ _ m nrpn hm)
+        (silent g c hg hc 100 l (omega arith) hl (second-100 g c _ _ _ _ _ _ _ l rpn hl) (ended c _)))
+        .leaves (recordAfter r (control g c 99 a)) (after-formed r f (translate-words (control g c 99 a))) (half-99 a ha))

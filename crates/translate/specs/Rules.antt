@@ -165,6 +165,33 @@ pub record TranslatedByRules (r : Midi1ToMidi2Group) : Type 0 where
   -- where nothing is pending, as after `flush`, 121 makes the number null at once (RP-015)
   pub reset-null : (g h c v x y : ℕ) → g < 16 → h < 16 → c < 16 → v < 128 → x < 128 → y < 128
       → wordsFrom (flushedRecord r h c) (control g c 121 v ∷ control g c 6 x ∷ control g c 38 y ∷ []) ≡ controlWords g c 121 v
+  -- all four halves are 7F then: one that follows joins 7F, of either kind
+  pub reset-then-101 : (g h c v m x y : ℕ) → g < 16 → h < 16 → c < 16 → v < 128 → m < 128 → x < 128 → y < 128 → (m ≡ 0x7F → ⊥)
+      → wordsFrom (flushedRecord r h c) (control g c 121 v ∷ control g c 101 m ∷ control g c 6 x ∷ control g c 38 y ∷ [])
+      ≡ controlWords g c 121 v ++ registeredWords c m 0x7F g (x * 2 ^ 7 + y)
+  pub reset-then-100 : (g h c v l x y : ℕ) → g < 16 → h < 16 → c < 16 → v < 128 → l < 128 → x < 128 → y < 128 → (l ≡ 0x7F → ⊥)
+      → wordsFrom (flushedRecord r h c) (control g c 121 v ∷ control g c 100 l ∷ control g c 6 x ∷ control g c 38 y ∷ [])
+      ≡ controlWords g c 121 v ++ registeredWords c 0x7F l g (x * 2 ^ 7 + y)
+  pub reset-then-99 : (g h c v m x y : ℕ) → g < 16 → h < 16 → c < 16 → v < 128 → m < 128 → x < 128 → y < 128 → (m ≡ 0x7F → ⊥)
+      → wordsFrom (flushedRecord r h c) (control g c 121 v ∷ control g c 99 m ∷ control g c 6 x ∷ control g c 38 y ∷ [])
+      ≡ controlWords g c 121 v ++ assignableWords c m 0x7F g (x * 2 ^ 7 + y)
+  pub reset-then-98 : (g h c v l x y : ℕ) → g < 16 → h < 16 → c < 16 → v < 128 → l < 128 → x < 128 → y < 128 → (l ≡ 0x7F → ⊥)
+      → wordsFrom (flushedRecord r h c) (control g c 121 v ∷ control g c 98 l ∷ control g c 6 x ∷ control g c 38 y ∷ [])
+      ≡ controlWords g c 121 v ++ assignableWords c 0x7F l g (x * 2 ^ 7 + y)
+  -- each of 98 to 101 ends the held MSB: a 38 without a new 6 gives nothing (D.3.3)
+  pub number-ends-msb : (g c n v y : ℕ) → g < 16 → c < 16 → 98 ≤ n → n ≤ 101 → v < 128 → y < 128
+      → wordsFrom (recordAfter r (control g c n v)) (control g c 38 y ∷ []) ≡ []
+  -- a number of one kind leaves that of the other, so that one half alters it (D.3.3)
+  pub registered-kept : (g c m l a b k x y : ℕ) → g < 16 → c < 16 → m < 128 → l < 128 → a < 128 → b < 128 → k < 128 → x < 128 → y < 128
+      → (NullNumber m k → ⊥) → (McmNumber m k → ⊥)
+      → wordsFrom (recordAfterAll r (control g c 101 m ∷ control g c 100 l ∷ control g c 99 a ∷ control g c 98 b ∷ []))
+      (control g c 100 k ∷ control g c 6 x ∷ control g c 38 y ∷ [])
+      ≡ registeredWords c m k g (x * 2 ^ 7 + y)
+  pub assignable-kept : (g c a b m l k x y : ℕ) → g < 16 → c < 16 → a < 128 → b < 128 → m < 128 → l < 128 → k < 128 → x < 128 → y < 128
+      → (NullNumber a k → ⊥)
+      → wordsFrom (recordAfterAll r (control g c 99 a ∷ control g c 98 b ∷ control g c 101 m ∷ control g c 100 l ∷ []))
+      (control g c 98 k ∷ control g c 6 x ∷ control g c 38 y ∷ [])
+      ≡ assignableWords c a k g (x * 2 ^ 7 + y)
   -- what other channels hold stays
   pub other-channels : (w d : ℕ) → (d ≡ channelOf w → ⊥) → stateOn (recordAfter r w) d ≡ stateOn r d
   pub other-channels-flushed : (h c d : ℕ) → (d ≡ packetValue c → ⊥) → stateOn (flushedRecord r h c) d ≡ stateOn r d
