@@ -23,6 +23,15 @@ pub flushed-more : (c d : Cable) (k : ℕ) (o : Outcome (List ℕ)) (ks : List �
 unfolding flushedWords
 flushed-more c d k o ks p q = rw (p, q)
 
+-- no bytes and no channels give no words
+pub none-heard : (c : Cable) → heardWords c [] ≡ []
+unfolding heardWords
+none-heard c = refl
+
+pub none-flushed : (c : Cable) → flushedWords c [] ≡ []
+unfolding flushedWords
+none-flushed c = refl
+
 -- a byte's words come first where its message, if it has one, does
 reply-first : (t : Midi1ToMidi2Group) (r : Reply) (ws : List ℕ) → wordsAnswered (replyWords t r) ++ wordsFrom (replyRecord t r) ws ≡ wordsFrom t (messageIn r ++ ws)
 unfolding wordsFrom

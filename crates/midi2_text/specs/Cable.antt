@@ -43,6 +43,11 @@ heardCable c b = cableOf (stepEnd (c .end) b) (replyRecord (c .translator) (step
 abbrev pub flushedCable : Cable → ℕ → Cable
 flushedCable c channel = cableOf (c .end) (flushedRecord (c .translator) 0 channel)
 
+-- the cable after bytes
+unfoldable pub cableAfter : Cable → List ℕ → Cable
+cableAfter c [] = c
+cableAfter c (b ∷ bs) = cableAfter (heardCable c b) bs
+
 -- the words of bytes, in order
 unfoldable pub heardWords : Cable → List ℕ → List ℕ
 heardWords c [] = []

@@ -1,11 +1,11 @@
 // One cable: its receiving end, and the translator of the messages that the end reads.
 ghost use mathlib.Core.Path.{_≡_};
-ghost use mathlib.Core.List.{List, _∷_, _++_};
+ghost use mathlib.Core.List.{List, [], _∷_, _++_};
 ghost use Prim.Native.Nat.{ℕ};
 ghost use Rattle.receiving_end.specs.End.{newEnd};
 ghost use Rattle.translate.specs.Translate.{translationRead, flushReply};
-ghost use Rattle.translate.specs.Lists.{wordsAnswered, wordsOf};
-ghost use Rattle.midi2_text.specs.Cable.{cableOf, newCable, replyWords, replyRecord, heardReply, heardCable, flushedCable, heardWords, messagesRead, flushedWords};
+ghost use Rattle.translate.specs.Lists.{wordsAnswered, wordsOf, Given};
+ghost use Rattle.midi2_text.specs.Cable.{cableOf, newCable, replyWords, replyRecord, heardReply, heardCable, flushedCable, cableAfter, heardWords, messagesRead, flushedWords};
 use byte_call::step;
 use receiving_end::end::End;
 use receiving_end::end::Reply;
@@ -59,10 +59,12 @@ fn of_parts(end: End, translated: Translated) -> Heard
 }
 
 impl Cable {
-    // A new end and a new translator. The words of its bytes are those of the messages that the end reads.
+    // A new end and a new translator. The words of its bytes are those of the messages that the end reads, and after whatever bytes no byte and no flush
+    // is declined.
     pub fn new() -> Cable
         ensures is { λ r. ⌜ r ≡ newCable ⌝ }
         ensures messages { λ r. ⌜ ((bytes : List ℕ) → heardWords r bytes ≡ wordsOf (messagesRead newEnd bytes)) ⌝ }
+        ensures answered { λ r. ⌜ ((bytes : List ℕ) (byte : ℕ) → Given (heardReply (cableAfter r bytes) byte)) × ((bytes : List ℕ) (channel : ℕ) → Given (flushReply (cableAfter r bytes .translator) 0 channel)) ⌝ }
     {
         Cable {
             end: End::new(),
@@ -74,7 +76,8 @@ impl Cable {
     pub fn hear(self, byte: u8) -> Heard
         ensures reply { λ r. ⌜ translationRead (r .reply) ≡ heardReply self byte ⌝ }
         ensures cable { λ r. ⌜ r .cable ≡ heardCable self byte ⌝ }
-        ensures list { λ r. ⌜ ((bytes : List ℕ) → heardWords self (byte ∷ bytes) ≡ wordsAnswered (translationRead (r .reply)) ++ heardWords (r .cable) bytes) ⌝ }
+        ensures list { λ r. ⌜ ((bytes : List ℕ) → heardWords self (byte ∷ bytes) ≡ wordsAnswered (translationRead (r .reply)) ++ heardWords (r .cable) bytes) × (heardWords self [] ≡ []) ⌝ }
+        ensures after { λ r. ⌜ ((bytes : List ℕ) → cableAfter self (byte ∷ bytes) ≡ cableAfter (r .cable) bytes) × (cableAfter self [] ≡ self) ⌝ }
     {
         let end = self.end;
         let translator = self.translator;
@@ -88,7 +91,7 @@ impl Cable {
     pub fn flush(self, channel: u8) -> Heard
         ensures reply { λ r. ⌜ translationRead (r .reply) ≡ flushReply (self .translator) 0 channel ⌝ }
         ensures cable { λ r. ⌜ r .cable ≡ flushedCable self channel ⌝ }
-        ensures list { λ r. ⌜ ((channels : List ℕ) → flushedWords self (channel ∷ channels) ≡ wordsAnswered (translationRead (r .reply)) ++ flushedWords (r .cable) channels) ⌝ }
+        ensures list { λ r. ⌜ ((channels : List ℕ) → flushedWords self (channel ∷ channels) ≡ wordsAnswered (translationRead (r .reply)) ++ flushedWords (r .cable) channels) × (flushedWords self [] ≡ []) ⌝ }
     {
         let end = self.end;
         let translator = self.translator;

@@ -4,7 +4,7 @@ use borrow.Author.Needs.{needs}
 use Rattle.midi2_text.proofs.cable.Cable.flush.Statement.{statement}
 use Rattle.midi2_text.proofs.cable.Cable.flush.Tie as tie
 use Rattle.translate.specs.Translate.{translationRead}
-use Rattle.midi2_text.proofs.Words.{flushed-more}
+use Rattle.midi2_text.proofs.Words.{flushed-more, none-flushed}
 
 flush-requires : tie.Need-flush-requires
 flush-requires c κs = search needs
@@ -13,7 +13,7 @@ of-parts-requires : tie.Need-of-parts-requires
 of-parts-requires c κs = search needs
 
 returns : tie.Need-returns
-returns c = (cc, (cc, λ channels. flushed-more _ _ _ (translationRead (c .of-parts .result .reply)) channels (cc) (cc)))
+returns c = (cc, (cc, (λ channels. flushed-more _ _ _ (translationRead (c .of-parts .result .reply)) channels (cc) (cc), none-flushed _)))
 
 pub flush-spec : {M : Type 1} → statement M
 flush-spec = tie.close (tie.spec flush-requires of-parts-requires returns)
