@@ -4,7 +4,7 @@ use mathlib.Core.Path.{_≡_}
 use mathlib.Core.Bool.{true, false}
 use Prim.Native.Nat.{ℕ, _/_, _≤_}
 use native.Mathlib.Omega.{arith}
-use lib.Dec.{ltb, eqb}
+use lib.Dec.{eqb}
 use Rattle.ump.proofs.Cases.{by-test, of-both}
 use Rattle.translate_state.specs.declared.ChannelState.{ChannelState}
 use Rattle.translate_state.specs.State.{held, pendingIn, nullAfterIn, withKind, withPending, withoutPending, withNullAfter, withoutNullAfter, withHeldRpn, withHeldNrpn, withBank, withEntry, selectionNulled, flagsAllowed, pendingSent, numberHeld, kindOfNumber, selected, entryHeld, completed, controllersReset, bankMsbHeld, bankLsbHeld, bankSent}
