@@ -226,6 +226,13 @@ number g c s n v l h =
       le-ltb 101 n h,
     )
 
+-- with nothing pending
+module _ (g c rm rl nm nl d bm bl v : ℕ) (k : Kind) where
+  half-after : (n : ℕ) → 98 ≤ n → n ≤ 101 → (t : ChannelState) → selected (on rm rl nm nl d bm bl (code k)) n v ≡ t
+      → controlChanged g c (on rm rl nm nl d bm bl (code k)) n v ≡ channelStep t Nothing
+  half-after n l u t e =
+      number g c _ n v l u ∙ rw (none-sent rm rl nm nl bm bl k d, none-pending rm rl nm nl bm bl g c k d, e)
+
 -- 6 with a reset noted
 reset-6 : (rm rl nm nl bm bl g c : ℕ) (k : Kind) (x z : ℕ) → z < 128
     → controlChanged g c (on rm rl nm nl (x + 1) bm bl (code-reset k)) 6 z
@@ -356,6 +363,24 @@ module _ (g c : ℕ) (hg : g < 16) (hc : c < 16) (j k : Kind) (a1 a2 a3 a4 rm rl
                 (hold d bm bl x hx
                 (said g c hg hc 38 y (omega arith) hy _ (entry g (x * 2 ^ 7 + y)) (first-38 rm rl nm nl bm bl g c k x y) (read g (x * 2 ^ 7 + y))
                 (again bm bl x z hz)));
+            completed-then-6 =
+                λ x y z w hx hy hz hw.
+                words-from
+                (hold d bm bl x hx
+                (said g c hg hc 38 y (omega arith) hy _ (entry g (x * 2 ^ 7 + y)) (first-38 rm rl nm nl bm bl g c k x y) (read g (x * 2 ^ 7 + y))
+                (silent g c hg hc 6 z (omega arith) hz (first-6 rm rl nm nl bm bl g c k (x + 1) z hz no-mcm) (complete bm bl z w hw))));
+            completed-then-number =
+                λ x y n v hx hy l h hv.
+                words-from
+                (hold d bm bl x hx
+                (said-last g c hg hc 38 y (omega arith) hy _ (entry g (x * 2 ^ 7 + y)) (first-38 rm rl nm nl bm bl g c k x y) (read g (x * 2 ^ 7 + y))
+                (silent g c hg hc n v (omega arith) hv (half-after g c rm rl nm nl (x + 1) bm bl v k n l h _ refl) (ended c _))));
+            completed-then-flushed =
+                λ h x y hh hx hy.
+                let q = recordAfterAll r (first ∷ control g c n2 v2 ∷ control g c 6 x ∷ control g c 38 y ∷ []) in
+                let e : stateOn q c ≡ waiting x bm bl (code k) = entry-of d bm bl x y hx hy .leaves (recordAfter r first) after-first start in
+                flush-answer q (all-formed r f (first ∷ control g c n2 v2 ∷ control g c 6 x ∷ control g c 38 y ∷ [])) h c hh hc
+                ∙ rw (e, none-pending rm rl nm nl bm bl h c k (x + 1));
             no-value =
                 λ y hy.
                 words-from
@@ -452,22 +477,17 @@ code-alone rpn = refl
 code-alone nrpn = refl
 
 module _ (g c rm rl nm nl d bm bl v : ℕ) (k : Kind) (h : v < 128) where
-  half-after : (n : ℕ) → 98 ≤ n → n ≤ 101 → (t : ChannelState) → selected (on rm rl nm nl d bm bl (code k)) n v ≡ t
-      → controlChanged g c (on rm rl nm nl d bm bl (code k)) n v ≡ channelStep t Nothing
-  half-after n l u t e =
-      number g c _ n v l u ∙ rw (none-sent rm rl nm nl bm bl k d, none-pending rm rl nm nl bm bl g c k d, e)
-
   second-101 : controlChanged g c (on rm rl nm nl d bm bl (code k)) 101 v ≡ channelStep (on (v + 1) rl nm nl 0 bm bl 1) Nothing
-  second-101 = half-after 101 (omega arith) (omega arith) _ (selected-101 _ (code-alone k) v h)
+  second-101 = half-after g c rm rl nm nl d bm bl v k 101 (omega arith) (omega arith) _ (selected-101 _ (code-alone k) v h)
 
   second-100 : controlChanged g c (on rm rl nm nl d bm bl (code k)) 100 v ≡ channelStep (on rm (v + 1) nm nl 0 bm bl 1) Nothing
-  second-100 = half-after 100 (omega arith) (omega arith) _ (selected-100 _ (code-alone k) v h)
+  second-100 = half-after g c rm rl nm nl d bm bl v k 100 (omega arith) (omega arith) _ (selected-100 _ (code-alone k) v h)
 
   second-99 : controlChanged g c (on rm rl nm nl d bm bl (code k)) 99 v ≡ channelStep (on rm rl (v + 1) nl 0 bm bl 2) Nothing
-  second-99 = half-after 99 (omega arith) (omega arith) _ (selected-99 _ (code-alone k) v h)
+  second-99 = half-after g c rm rl nm nl d bm bl v k 99 (omega arith) (omega arith) _ (selected-99 _ (code-alone k) v h)
 
   second-98 : controlChanged g c (on rm rl nm nl d bm bl (code k)) 98 v ≡ channelStep (on rm rl nm (v + 1) 0 bm bl 2) Nothing
-  second-98 = half-after 98 (omega arith) (omega arith) _ (selected-98 _ (code-alone k) v h)
+  second-98 = half-after g c rm rl nm nl d bm bl v k 98 (omega arith) (omega arith) _ (selected-98 _ (code-alone k) v h)
 
 -- a number that is not null, and one that is not 0/6
 module _ (m l : ℕ) where

@@ -92,6 +92,14 @@ pub record EntryRules (r : Midi1ToMidi2Group) (g c first second : ℕ) (entry : 
   pub again-by-38 : (x y z : ℕ) → x < 128 → y < 128 → z < 128
       → wordsFrom (recordAfter r first) (second ∷ control g c 6 x ∷ control g c 38 y ∷ control g c 38 z ∷ [])
       ≡ entry g (x * 2 ^ 7 + y) ++ entry g (x * 2 ^ 7 + z)
+  -- what a 38 completed is not sent again at the next 6, at 98 to 101, or by `flush`
+  pub completed-then-6 : (x y z w : ℕ) → x < 128 → y < 128 → z < 128 → w < 128
+      → wordsFrom (recordAfter r first) (second ∷ control g c 6 x ∷ control g c 38 y ∷ control g c 6 z ∷ control g c 38 w ∷ [])
+      ≡ entry g (x * 2 ^ 7 + y) ++ entry g (z * 2 ^ 7 + w)
+  pub completed-then-number : (x y n v : ℕ) → x < 128 → y < 128 → 98 ≤ n → n ≤ 101 → v < 128
+      → wordsFrom (recordAfter r first) (second ∷ control g c 6 x ∷ control g c 38 y ∷ control g c n v ∷ []) ≡ entry g (x * 2 ^ 7 + y)
+  pub completed-then-flushed : (h x y : ℕ) → h < 16 → x < 128 → y < 128
+      → flushReply (recordAfterAll r (first ∷ second ∷ control g c 6 x ∷ control g c 38 y ∷ [])) h c ≡ given []
   pub no-value : (y : ℕ) → y < 128 → wordsFrom (recordAfter r first) (second ∷ control g c 38 y ∷ []) ≡ []
   -- a 6 that no 38 follows has LSB 0: it is sent at the next 6, at 98 to 101, or by `flush`, once
   pub ended-by-6 : (x z w : ℕ) → x < 128 → z < 128 → w < 128
