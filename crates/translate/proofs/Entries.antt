@@ -14,12 +14,14 @@ use Rattle.ump.specs.Outcome.{given}
 use Rattle.ump.proofs.Cases.{by-test, of-both}
 use Rattle.translate_state.specs.declared.ChannelState.{ChannelState}
 use Rattle.translate_state.specs.declared.Midi1ToMidi2Group.{Midi1ToMidi2Group}
-use Rattle.translate_state.specs.State.{held, channelState, emptyState, newRecord, pendingSent, selected, mcmSelected, entryHeld, completed, controllersReset, stateOn, flagsAllowed}
+use Rattle.translate_state.specs.State.{held, channelState, emptyState, newRecord, pendingIn, nullAfterIn, pendingSent, selected, mcmSelected, entryHeld, completed, controllersReset, stateOn, flagsAllowed}
 use Rattle.translate.specs.declared.Translation.{Translation}
 use Rattle.translate.specs.declared.Translation.the-variants.{Words, Nothing, OutOfRange}
+use Rattle.translate.specs.declared.Stepped.{Stepped}
 use Rattle.translate.specs.Translate.{translationRead, firstWord, controllerData, controllerNumbered, controller, pendingWords, channelStep, enteredAfter, lsbEntered, passedOn, controlChanged, messageTranslated, recordAfter, flushedRecord}
 use Rattle.translate.specs.Lists.{translate-words, flush, translatorAfterAll, wordsFrom, control, Formed}
-use Rattle.translate.specs.Rules.{recordAfterAll, controlWords, registeredWords, assignableWords, NullNumber, McmNumber, EntryRules, McmRules}
+use Rattle.translate.specs.Rules.{recordAfterAll, controlWords, registeredWords, assignableWords, NullNumber, McmNumber, EntryRules, McmRules, NullRules}
+use Rattle.translate_state.proofs.Flags.{flags-lt}
 use Rattle.translate_state.proofs.Kept.{sent-kept, sent-kind}
 use Rattle.translate.proofs.Always.{new-formed, on-allowed, after-formed, always-formed}
 use Rattle.translate.proofs.Each.{Each, nothing, _and_, at}
@@ -302,8 +304,8 @@ module _ (g c x y : ℕ) (hg : g < 16) (hc : c < 16) (hx : x < 128) (hy : y < 12
         rw e at (at halves (n - 98) (omega arith))
 
 -- a number that a second message completes, and its entries
-module _ (g c : ℕ) (hg : g < 16) (hc : c < 16) (j k : Kind) (a1 a2 a3 a4 rm rl nm nl n2 v2 : ℕ) (hn : n2 < 128) (hv : v2 < 128)
-    (select : (d bm bl : ℕ) → controlChanged g c (on a1 a2 a3 a4 d bm bl (code j)) n2 v2 ≡ channelStep (on rm rl nm nl 0 bm bl (code k)) Nothing)
+module _ (g c : ℕ) (hg : g < 16) (hc : c < 16) (k : Kind) (a1 a2 a3 a4 rm rl nm nl n2 v2 : ℕ) (hn : n2 < 128) (hv : v2 < 128)
+    (select : (d bm bl : ℕ) → controlChanged g c (on a1 a2 a3 a4 d bm bl (code k)) n2 v2 ≡ channelStep (on rm rl nm nl 0 bm bl (code k)) Nothing)
     (no-mcm : mcmOf rm rl nm nl k ≡ false)
     (entry : ℕ → ℕ → List ℕ)
     (read : (h v : ℕ) → translationRead (sent rm rl nm nl k h c v) ≡ given (entry h v))
@@ -311,10 +313,10 @@ module _ (g c : ℕ) (hg : g < 16) (hc : c < 16) (j k : Kind) (a1 a2 a3 a4 rm rl
     abbrev waiting : ℕ → ℕ → ℕ → ℕ → ChannelState
     waiting x bm bl f = on rm rl nm nl (x + 1) bm bl f
 
-    hold : {ws out : List ℕ} {t : ChannelState} (d bm bl x : ℕ) → x < 128 → Gives c (waiting x bm bl (code-pending k)) ws out t
-        → Gives c (on a1 a2 a3 a4 d bm bl (code j)) (control g c n2 v2 ∷ control g c 6 x ∷ ws) out t
-    hold d bm bl x h rest =
-        silent g c hg hc n2 v2 hn hv (select d bm bl)
+    hold : {ws out : List ℕ} {t : ChannelState} (bm bl x : ℕ) → x < 128 → Gives c (waiting x bm bl (code-pending k)) ws out t
+        → Gives c (on a1 a2 a3 a4 0 bm bl (code k)) (control g c n2 v2 ∷ control g c 6 x ∷ ws) out t
+    hold bm bl x h rest =
+        silent g c hg hc n2 v2 hn hv (select 0 bm bl)
         (silent g c hg hc 6 x (omega arith) h (first-6 rm rl nm nl bm bl g c k 0 x h no-mcm) rest)
 
     read-pending : (bm bl h x : ℕ) → translationRead (pendingWords h c (waiting x bm bl (code-pending k))) ≡ given (entry h (x * 2 ^ 7))
@@ -328,121 +330,117 @@ module _ (g c : ℕ) (hg : g < 16) (hc : c < 16) (j k : Kind) (a1 a2 a3 a4 rm rl
     complete bm bl x y h =
         said-last g c hg hc 38 y (omega arith) h _ (entry g (x * 2 ^ 7 + y)) (first-38 rm rl nm nl bm bl g c k x y) (read g (x * 2 ^ 7 + y)) (ended c _)
 
-    entry-of : (d bm bl x y : ℕ) → x < 128 → y < 128
-        → Gives c (on a1 a2 a3 a4 d bm bl (code j)) (control g c n2 v2 ∷ control g c 6 x ∷ control g c 38 y ∷ []) (entry g (x * 2 ^ 7 + y)) (waiting x bm bl (code k))
-    entry-of d bm bl x y hx hy = hold d bm bl x hx (complete bm bl x y hy)
-
     -- 38 once more
     again : (bm bl x y : ℕ) → y < 128 → Gives c (waiting x bm bl (code k)) (control g c 38 y ∷ []) (entry g (x * 2 ^ 7 + y)) (waiting x bm bl (code k))
     again bm bl x y h =
         said-last g c hg hc 38 y (omega arith) h _ (entry g (x * 2 ^ 7 + y)) (next-38 rm rl nm nl bm bl g c k x y) (read g (x * 2 ^ 7 + y)) (ended c _)
 
     -- 121 after 6
-    reset-after : {ws out : List ℕ} {t : ChannelState} (d bm bl x v : ℕ) → x < 128 → v < 128 → Gives c (waiting x bm bl (code-reset k)) ws out t
-        → Gives c (on a1 a2 a3 a4 d bm bl (code j)) (control g c n2 v2 ∷ control g c 6 x ∷ control g c 121 v ∷ ws) (controlWords g c 121 v ++ out) t
-    reset-after d bm bl x v hx hv rest =
-        hold d bm bl x hx
+    reset-after : {ws out : List ℕ} {t : ChannelState} (bm bl x v : ℕ) → x < 128 → v < 128 → Gives c (waiting x bm bl (code-reset k)) ws out t
+        → Gives c (on a1 a2 a3 a4 0 bm bl (code k)) (control g c n2 v2 ∷ control g c 6 x ∷ control g c 121 v ∷ ws) (controlWords g c 121 v ++ out) t
+    reset-after bm bl x v hx hv rest =
+        hold bm bl x hx
         (said g c hg hc 121 v (omega arith) hv _ (controlWords g c 121 v) (reset-pending rm rl nm nl bm bl g c k (x + 1) v) refl rest)
 
-    module _ (r : Midi1ToMidi2Group) (f : Formed r) (first d bm bl : ℕ) (start : stateOn (recordAfter r first) c ≡ on a1 a2 a3 a4 d bm bl (code j)) where
+    module _ (r : Midi1ToMidi2Group) (f : Formed r) (first bm bl : ℕ) (start : stateOn (recordAfter r first) c ≡ on a1 a2 a3 a4 0 bm bl (code k)) where
       after-first : Formed (recordAfter r first)
       after-first = after-formed r f (translate-words first)
 
       -- the words and the state of a list from there
-      words-from : {ws out : List ℕ} {t : ChannelState} → Gives c (on a1 a2 a3 a4 d bm bl (code j)) ws out t → wordsFrom (recordAfter r first) ws ≡ out
+      words-from : {ws out : List ℕ} {t : ChannelState} → Gives c (on a1 a2 a3 a4 0 bm bl (code k)) ws out t → wordsFrom (recordAfter r first) ws ≡ out
       words-from all = all .gives (recordAfter r first) after-first start
 
       entry-rules : EntryRules r g c first (control g c n2 v2) entry
       unfolding translatorAfterAll
       entry-rules =
           record {
-            completed-by-38 = λ x y hx hy. words-from (entry-of d bm bl x y hx hy);
+            completed-by-38 = λ x y hx hy. words-from (hold bm bl x hx (complete bm bl x y hy));
             again-by-38 =
                 λ x y z hx hy hz.
                 words-from
-                (hold d bm bl x hx
+                (hold bm bl x hx
                 (said g c hg hc 38 y (omega arith) hy _ (entry g (x * 2 ^ 7 + y)) (first-38 rm rl nm nl bm bl g c k x y) (read g (x * 2 ^ 7 + y))
                 (again bm bl x z hz)));
             completed-then-6 =
                 λ x y z w hx hy hz hw.
                 words-from
-                (hold d bm bl x hx
+                (hold bm bl x hx
                 (said g c hg hc 38 y (omega arith) hy _ (entry g (x * 2 ^ 7 + y)) (first-38 rm rl nm nl bm bl g c k x y) (read g (x * 2 ^ 7 + y))
                 (silent g c hg hc 6 z (omega arith) hz (first-6 rm rl nm nl bm bl g c k (x + 1) z hz no-mcm) (complete bm bl z w hw))));
             completed-then-number =
                 λ x y n v hx hy l h hv.
                 words-from
-                (hold d bm bl x hx
+                (hold bm bl x hx
                 (said-last g c hg hc 38 y (omega arith) hy _ (entry g (x * 2 ^ 7 + y)) (first-38 rm rl nm nl bm bl g c k x y) (read g (x * 2 ^ 7 + y))
                 (silent g c hg hc n v (omega arith) hv (half-after g c rm rl nm nl (x + 1) bm bl v k n l h _ refl) (ended c _))));
             completed-then-flushed =
                 λ h x y hh hx hy.
                 let q = recordAfterAll r (first ∷ control g c n2 v2 ∷ control g c 6 x ∷ control g c 38 y ∷ []) in
-                let e : stateOn q c ≡ waiting x bm bl (code k) = entry-of d bm bl x y hx hy .leaves (recordAfter r first) after-first start in
+                let e : stateOn q c ≡ waiting x bm bl (code k) = hold bm bl x hx (complete bm bl x y hy) .leaves (recordAfter r first) after-first start in
                 flush-answer q (all-formed r f (first ∷ control g c n2 v2 ∷ control g c 6 x ∷ control g c 38 y ∷ [])) h c hh hc
                 ∙ rw (e, none-pending rm rl nm nl bm bl h c k (x + 1));
             no-value =
                 λ y hy.
                 words-from
-                (silent g c hg hc n2 v2 hn hv (select d bm bl)
+                (silent g c hg hc n2 v2 hn hv (select 0 bm bl)
                 (silent g c hg hc 38 y (omega arith) hy (none-38 rm rl nm nl bm bl g c k y) (ended c _)));
             ended-by-6 =
                 λ x z w hx hz hw.
                 words-from
-                (hold d bm bl x hx
+                (hold bm bl x hx
                 (said g c hg hc 6 z (omega arith) hz _ (entry g (x * 2 ^ 7)) (next-6 rm rl nm nl bm bl g c k x z hz no-mcm) (read g (x * 2 ^ 7))
                 (complete bm bl z w hw)));
             ended-by-number =
                 λ x n v hx l h hv.
                 words-from
-                (hold d bm bl x hx
+                (hold bm bl x hx
                 (said-last g c hg hc n v (omega arith) hv _ (entry g (x * 2 ^ 7)) (number g c (waiting x bm bl (code-pending k)) n v l h) (read-pending bm bl g x) (ended c _)));
             flushed =
                 λ h x hh hx.
                 let q = recordAfterAll r (first ∷ control g c n2 v2 ∷ control g c 6 x ∷ []) in
-                let e : stateOn q c ≡ waiting x bm bl (code-pending k) = hold d bm bl x hx (ended c _) .leaves (recordAfter r first) after-first start in
+                let e : stateOn q c ≡ waiting x bm bl (code-pending k) = hold bm bl x hx (ended c _) .leaves (recordAfter r first) after-first start in
                 flush-answer q (all-formed r f (first ∷ control g c n2 v2 ∷ control g c 6 x ∷ [])) h c hh hc ∙ rw e (read-pending bm bl h x);
             flushed-once =
                 λ h x hh hx.
                 let q = recordAfterAll r (first ∷ control g c n2 v2 ∷ control g c 6 x ∷ []) in
-                let e : stateOn q c ≡ waiting x bm bl (code-pending k) = hold d bm bl x hx (ended c _) .leaves (recordAfter r first) after-first start in
+                let e : stateOn q c ≡ waiting x bm bl (code-pending k) = hold bm bl x hx (ended c _) .leaves (recordAfter r first) after-first start in
                 let o : Formed q = all-formed r f (first ∷ control g c n2 v2 ∷ control g c 6 x ∷ []) in
                 flush-answer (flushedRecord q h c) (after-formed q o (flush h c)) h c hh hc
                 ∙ rw (flush-state q o h c hh hc, e, pending-sent rm rl nm nl bm bl k (x + 1), none-pending rm rl nm nl bm bl h c k (x + 1));
             flushed-then-38 =
                 λ h x y hh hx hy.
                 let q = recordAfterAll r (first ∷ control g c n2 v2 ∷ control g c 6 x ∷ []) in
-                let e : stateOn q c ≡ waiting x bm bl (code-pending k) = hold d bm bl x hx (ended c _) .leaves (recordAfter r first) after-first start in
+                let e : stateOn q c ≡ waiting x bm bl (code-pending k) = hold bm bl x hx (ended c _) .leaves (recordAfter r first) after-first start in
                 let o : Formed q = all-formed r f (first ∷ control g c n2 v2 ∷ control g c 6 x ∷ []) in
                 again bm bl x y hy .gives (flushedRecord q h c) (after-formed q o (flush h c))
                 (flush-state q o h c hh hc ∙ ap pendingSent e ∙ pending-sent rm rl nm nl bm bl k (x + 1));
             reset-then-38 =
                 λ x v y z w hx hv hy hz hw.
                 words-from
-                (reset-after d bm bl x v hx hv
+                (reset-after bm bl x v hx hv
                 (said-last g c hg hc 38 y (omega arith) hy _ (entry g (x * 2 ^ 7)) (reset-38 rm rl nm nl bm bl g c k x y) (read g (x * 2 ^ 7))
                 (null-entry g c hg hc k bm bl (x + 1) z w hz hw)));
             reset-then-6 =
                 λ x v z w hx hv hz hw.
                 words-from
-                (reset-after d bm bl x v hx hv
+                (reset-after bm bl x v hx hv
                 (said-last g c hg hc 6 z (omega arith) hz _ (entry g (x * 2 ^ 7)) (reset-6 rm rl nm nl bm bl g c k x z hz) (read g (x * 2 ^ 7))
                 (null-38 g c hg hc k bm bl z w hw)));
             reset-then-number =
                 λ x v n u hx hv l h hu.
                 words-from
-                (reset-after d bm bl x v hx hv
+                (reset-after bm bl x v hx hv
                 (said-last g c hg hc n u (omega arith) hu _ (entry g (x * 2 ^ 7)) (number g c (waiting x bm bl (code-reset k)) n u l h) (read-reset bm bl g x) (ended c _)));
             reset-then-flushed =
                 λ h x v hh hx hv.
                 let q = recordAfterAll r (first ∷ control g c n2 v2 ∷ control g c 6 x ∷ control g c 121 v ∷ []) in
-                let e : stateOn q c ≡ waiting x bm bl (code-reset k) = reset-after d bm bl x v hx hv (ended c _) .leaves (recordAfter r first) after-first start in
+                let e : stateOn q c ≡ waiting x bm bl (code-reset k) = reset-after bm bl x v hx hv (ended c _) .leaves (recordAfter r first) after-first start in
                 flush-answer q (all-formed r f (first ∷ control g c n2 v2 ∷ control g c 6 x ∷ control g c 121 v ∷ [])) h c hh hc ∙ rw e (read-reset bm bl h x);
             beside-bank =
                 λ b x a p y hb hx ha hp hy.
                 words-from
-                (silent g c hg hc 0 b (omega arith) hb (held-0 g c (on a1 a2 a3 a4 d bm bl (code j)) b hb)
-                (hold d (b + 1) 1 x hx
+                (silent g c hg hc 0 b (omega arith) hb (held-0 g c (on a1 a2 a3 a4 0 bm bl (code k)) b hb)
+                (hold (b + 1) 1 x hx
                 (silent g c hg hc 32 a (omega arith) ha (held-32 g c (waiting x (b + 1) 1 (code-pending k)) a ha)
                 (message g c 0xC p 0 (fits-C g c p hg hc hp) _ (firstWord g 0xC c 0 1 ∷ (p * 2 ^ 24 + (b * 2 ^ 8 + a)) ∷ []) (with-bank g c (waiting x 0 0 (code-pending k)) p b a) refl
                 (complete 0 0 x y hy)))));
@@ -510,31 +508,77 @@ module _ (m l : ℕ) where
       rw (e, ne-eqb (l + 1) 128 (λ j. n (omega arith, omega arith))))
       (λ e. rw e))
 
--- the entry of a number that one half completes, whichever kind was selected
-module _ (g c : ℕ) (hg : g < 16) (hc : c < 16) (m l x y : ℕ) (hm : m < 128) (hl : l < 128) (hx : x < 128) (hy : y < 128) (j : Kind) where
-  by-101 : (NullNumber m l → ⊥) → (McmNumber m l → ⊥) → (rm nm nl d bm bl : ℕ)
-      → Gives c (on rm (l + 1) nm nl d bm bl (code j)) (control g c 101 m ∷ control g c 6 x ∷ control g c 38 y ∷ []) (registeredWords c m l g (x * 2 ^ 7 + y)) (on (m + 1) (l + 1) nm nl (x + 1) bm bl 1)
-  by-101 n o rm nm nl d bm bl =
-      entry-of g c hg hc j rpn rm (l + 1) nm nl (m + 1) (l + 1) nm nl 101 m (omega arith) hm (λ d bm bl. second-101 g c _ _ _ _ d bm bl m j hm) (not-mcm m l o) (registeredWords c m l)
-      (λ h v. rw (sent-of m l n h 0x2 c v)) d bm bl x y hx hy
+-- 6 and 38 with a number
+module _ (g c : ℕ) (hg : g < 16) (hc : c < 16) (m l x y : ℕ) (hx : x < 128) (hy : y < 128) where
+  registered-sent : (NullNumber m l → ⊥) → (McmNumber m l → ⊥) → (nm nl bm bl : ℕ)
+      → Gives c (on (m + 1) (l + 1) nm nl 0 bm bl 1) (control g c 6 x ∷ control g c 38 y ∷ []) (registeredWords c m l g (x * 2 ^ 7 + y)) (on (m + 1) (l + 1) nm nl (x + 1) bm bl 1)
+  registered-sent n o nm nl bm bl =
+      silent g c hg hc 6 x (omega arith) hx (first-6 (m + 1) (l + 1) nm nl bm bl g c rpn 0 x hx (not-mcm m l o))
+      (said-last g c hg hc 38 y (omega arith) hy _ (registeredWords c m l g (x * 2 ^ 7 + y)) (first-38 (m + 1) (l + 1) nm nl bm bl g c rpn x y) (rw (sent-of m l n g 0x2 c (x * 2 ^ 7 + y))) (ended c _))
 
-  by-100 : (NullNumber m l → ⊥) → (McmNumber m l → ⊥) → (rl nm nl d bm bl : ℕ)
-      → Gives c (on (m + 1) rl nm nl d bm bl (code j)) (control g c 100 l ∷ control g c 6 x ∷ control g c 38 y ∷ []) (registeredWords c m l g (x * 2 ^ 7 + y)) (on (m + 1) (l + 1) nm nl (x + 1) bm bl 1)
-  by-100 n o rl nm nl d bm bl =
-      entry-of g c hg hc j rpn (m + 1) rl nm nl (m + 1) (l + 1) nm nl 100 l (omega arith) hl (λ d bm bl. second-100 g c _ _ _ _ d bm bl l j hl) (not-mcm m l o) (registeredWords c m l)
-      (λ h v. rw (sent-of m l n h 0x2 c v)) d bm bl x y hx hy
+  assignable-sent : (NullNumber m l → ⊥) → (rm rl bm bl : ℕ)
+      → Gives c (on rm rl (m + 1) (l + 1) 0 bm bl 2) (control g c 6 x ∷ control g c 38 y ∷ []) (assignableWords c m l g (x * 2 ^ 7 + y)) (on rm rl (m + 1) (l + 1) (x + 1) bm bl 2)
+  assignable-sent n rm rl bm bl =
+      silent g c hg hc 6 x (omega arith) hx (first-6 rm rl (m + 1) (l + 1) bm bl g c nrpn 0 x hx refl)
+      (said-last g c hg hc 38 y (omega arith) hy _ (assignableWords c m l g (x * 2 ^ 7 + y)) (first-38 rm rl (m + 1) (l + 1) bm bl g c nrpn x y) (rw (sent-of m l n g 0x3 c (x * 2 ^ 7 + y))) (ended c _))
 
-  by-99 : (NullNumber m l → ⊥) → (rm rl nm d bm bl : ℕ)
-      → Gives c (on rm rl nm (l + 1) d bm bl (code j)) (control g c 99 m ∷ control g c 6 x ∷ control g c 38 y ∷ []) (assignableWords c m l g (x * 2 ^ 7 + y)) (on rm rl (m + 1) (l + 1) (x + 1) bm bl 2)
-  by-99 n rm rl nm d bm bl =
-      entry-of g c hg hc j nrpn rm rl nm (l + 1) rm rl (m + 1) (l + 1) 99 m (omega arith) hm (λ d bm bl. second-99 g c _ _ _ _ d bm bl m j hm) refl (assignableWords c m l)
-      (λ h v. rw (sent-of m l n h 0x3 c v)) d bm bl x y hx hy
+-- a state of which both numbers are null once what is pending is sent
+record SentNull (s : ChannelState) : Type 0 where
+  kind : Kind
+  msb : ℕ
+  bank-m : ℕ
+  bank-l : ℕ
+  is : pendingSent s ≡ nulled msb bank-m bank-l (code kind)
 
-  by-98 : (NullNumber m l → ⊥) → (rm rl nl d bm bl : ℕ)
-      → Gives c (on rm rl (m + 1) nl d bm bl (code j)) (control g c 98 l ∷ control g c 6 x ∷ control g c 38 y ∷ []) (assignableWords c m l g (x * 2 ^ 7 + y)) (on rm rl (m + 1) (l + 1) (x + 1) bm bl 2)
-  by-98 n rm rl nl d bm bl =
-      entry-of g c hg hc j nrpn rm rl (m + 1) nl rm rl (m + 1) (l + 1) 98 l (omega arith) hl (λ d bm bl. second-98 g c _ _ _ _ d bm bl l j hl) refl (assignableWords c m l)
-      (λ h v. rw (sent-of m l n h 0x3 c v)) d bm bl x y hx hy
+null-as : {s : ChannelState} {d bm bl : ℕ} (k : Kind) → pendingSent s ≡ nulled d bm bl (code k) → SentNull s
+null-as {s} {d} {bm} {bl} k e = record { kind = k; msb = d; bank-m = bm; bank-l = bl; is = e }
+
+-- after 121
+resets : (rm rl nm nl d bm bl : ℕ) → Each (λ f. flagsAllowed f ≡ true → SentNull (controllersReset (on rm rl nm nl d bm bl f))) 16
+unfolding controllersReset pendingSent
+resets rm rl nm nl d bm bl =
+    nothing
+    and (λ a. null-as none refl)
+    and (λ a. null-as rpn refl)
+    and (λ a. null-as nrpn refl)
+    and (λ a. absurd (true≢false (sym a)))
+    and (λ a. null-as none refl)
+    and (λ a. null-as rpn refl)
+    and (λ a. null-as nrpn refl)
+    and (λ a. absurd (true≢false (sym a)))
+    and (λ a. absurd (true≢false (sym a)))
+    and (λ a. absurd (true≢false (sym a)))
+    and (λ a. absurd (true≢false (sym a)))
+    and (λ a. absurd (true≢false (sym a)))
+    and (λ a. null-as none refl)
+    and (λ a. null-as rpn refl)
+    and (λ a. null-as nrpn refl)
+    and (λ a. absurd (true≢false (sym a)))
+
+-- and after `flush`, 38 or 6 besides
+module _ (s : ChannelState) (z : SentNull s) where
+  null-flushed : SentNull (pendingSent s)
+  null-flushed = null-as (z .kind) (ap pendingSent (z .is) ∙ none-sent 128 128 128 128 _ _ (z .kind) _)
+
+  null-completed : nullAfterIn (s .flags) ≡ false → completed s ≡ pendingSent s
+  unfolding completed pendingSent
+  null-completed e = by-test (pendingIn (s .flags)) (λ p. rw (p, e)) (λ p. rw p)
+
+  null-after-38 : (g c y : ℕ) → SentNull (controlChanged g c s 38 y .state)
+  unfolding controlChanged lsbEntered
+  null-after-38 g c y =
+      by-test (nullAfterIn (s .flags))
+      (λ e. rw e null-flushed)
+      (λ e. rw e (of-both (λ (q : Stepped). SentNull (q .state)) (eqb (s .«data_msb») 0) z (rw (null-completed e) null-flushed)))
+
+  null-after-6 : (g c x : ℕ) → x < 128 → SentNull (controlChanged g c s 6 x .state)
+  unfolding controlChanged
+  null-after-6 g c x h =
+      let k = z .kind in
+      let e : entryHeld (pendingSent s) x ≡ nulled (x + 1) (z .bank-m) (z .bank-l) (code-pending k) =
+      ap (λ q. entryHeld q x) (z .is) ∙ entry-held 128 128 128 128 _ _ k _ x h in
+      rw (e, entered (pendingWords g c s) g c (nulled (x + 1) (z .bank-m) (z .bank-l) (code-pending k)) (mcm-of 128 128 128 128 _ _ k (x + 1) ∙ null-is-no-mcm k))
+      (null-as k (pending-sent 128 128 128 128 _ _ k (x + 1)))
 
 module _ (r : Midi1ToMidi2Group) (f : Formed r) (g c : ℕ) (hg : g < 16) (hc : c < 16) where
   abbrev before : ChannelState
@@ -567,35 +611,35 @@ module _ (r : Midi1ToMidi2Group) (f : Formed r) (g c : ℕ) (hg : g < 16) (hc : 
   module _ (m l : ℕ) (hm : m < 128) (hl : l < 128) where
     pub registered-entries : (NullNumber m l → ⊥) → (McmNumber m l → ⊥) → EntryRules r g c (control g c 101 m) (control g c 100 l) (registeredWords c m l)
     registered-entries n o =
-        entry-rules g c hg hc rpn rpn (m + 1) _ _ _ (m + 1) (l + 1) _ _ 100 l (omega arith) hl (λ d bm bl. second-100 g c _ _ _ _ d bm bl l rpn hl) (not-mcm m l o) _
-        (λ h v. rw (sent-of m l n h 0x2 c v)) r f _ 0 _ _ (half-101 m hm)
+        entry-rules g c hg hc rpn (m + 1) _ _ _ (m + 1) (l + 1) _ _ 100 l (omega arith) hl (λ d bm bl. second-100 g c _ _ _ _ d bm bl l rpn hl) (not-mcm m l o) _
+        (λ h v. rw (sent-of m l n h 0x2 c v)) r f _ _ _ (half-101 m hm)
 
     pub registered-entries-lsb-first : (NullNumber m l → ⊥) → (McmNumber m l → ⊥) → EntryRules r g c (control g c 100 l) (control g c 101 m) (registeredWords c m l)
     registered-entries-lsb-first n o =
-        entry-rules g c hg hc rpn rpn _ (l + 1) _ _ (m + 1) (l + 1) _ _ 101 m (omega arith) hm (λ d bm bl. second-101 g c _ _ _ _ d bm bl m rpn hm) (not-mcm m l o) _
-        (λ h v. rw (sent-of m l n h 0x2 c v)) r f _ 0 _ _ (half-100 l hl)
+        entry-rules g c hg hc rpn _ (l + 1) _ _ (m + 1) (l + 1) _ _ 101 m (omega arith) hm (λ d bm bl. second-101 g c _ _ _ _ d bm bl m rpn hm) (not-mcm m l o) _
+        (λ h v. rw (sent-of m l n h 0x2 c v)) r f _ _ _ (half-100 l hl)
 
     pub assignable-entries : (NullNumber m l → ⊥) → EntryRules r g c (control g c 99 m) (control g c 98 l) (assignableWords c m l)
     assignable-entries n =
-        entry-rules g c hg hc nrpn nrpn _ _ (m + 1) _ _ _ (m + 1) (l + 1) 98 l (omega arith) hl (λ d bm bl. second-98 g c _ _ _ _ d bm bl l nrpn hl) refl _
-        (λ h v. rw (sent-of m l n h 0x3 c v)) r f _ 0 _ _ (half-99 m hm)
+        entry-rules g c hg hc nrpn _ _ (m + 1) _ _ _ (m + 1) (l + 1) 98 l (omega arith) hl (λ d bm bl. second-98 g c _ _ _ _ d bm bl l nrpn hl) refl _
+        (λ h v. rw (sent-of m l n h 0x3 c v)) r f _ _ _ (half-99 m hm)
 
     pub assignable-entries-lsb-first : (NullNumber m l → ⊥) → EntryRules r g c (control g c 98 l) (control g c 99 m) (assignableWords c m l)
     assignable-entries-lsb-first n =
-        entry-rules g c hg hc nrpn nrpn _ _ _ (l + 1) _ _ (m + 1) (l + 1) 99 m (omega arith) hm (λ d bm bl. second-99 g c _ _ _ _ d bm bl m nrpn hm) refl _
-        (λ h v. rw (sent-of m l n h 0x3 c v)) r f _ 0 _ _ (half-98 l hl)
+        entry-rules g c hg hc nrpn _ _ _ (l + 1) _ _ (m + 1) (l + 1) 99 m (omega arith) hm (λ d bm bl. second-99 g c _ _ _ _ d bm bl m nrpn hm) refl _
+        (λ h v. rw (sent-of m l n h 0x3 c v)) r f _ _ _ (half-98 l hl)
 
   pub registered-null-entries : EntryRules r g c (control g c 101 0x7F) (control g c 100 0x7F) (λ h v. [])
   unfolding controllerNumbered
   registered-null-entries =
-      entry-rules g c hg hc rpn rpn 128 _ _ _ 128 128 _ _ 100 0x7F (omega arith) (omega arith) (λ d bm bl. second-100 g c _ _ _ _ d bm bl 0x7F rpn (omega arith)) refl _
-      (λ h v. refl) r f _ 0 _ _ (half-101 0x7F (omega arith))
+      entry-rules g c hg hc rpn 128 _ _ _ 128 128 _ _ 100 0x7F (omega arith) (omega arith) (λ d bm bl. second-100 g c _ _ _ _ d bm bl 0x7F rpn (omega arith)) refl _
+      (λ h v. refl) r f _ _ _ (half-101 0x7F (omega arith))
 
   pub assignable-null-entries : EntryRules r g c (control g c 99 0x7F) (control g c 98 0x7F) (λ h v. [])
   unfolding controllerNumbered
   assignable-null-entries =
-      entry-rules g c hg hc nrpn nrpn _ _ 128 _ _ _ 128 128 98 0x7F (omega arith) (omega arith) (λ d bm bl. second-98 g c _ _ _ _ d bm bl 0x7F nrpn (omega arith)) refl _
-      (λ h v. refl) r f _ 0 _ _ (half-99 0x7F (omega arith))
+      entry-rules g c hg hc nrpn _ _ 128 _ _ _ 128 128 98 0x7F (omega arith) (omega arith) (λ d bm bl. second-98 g c _ _ _ _ d bm bl 0x7F nrpn (omega arith)) refl _
+      (λ h v. refl) r f _ _ _ (half-99 0x7F (omega arith))
 
   -- RPN 0/6, with nothing pending
   abbrev mcm-state : ℕ → ChannelState
@@ -664,28 +708,42 @@ module _ (r : Midi1ToMidi2Group) (f : Formed r) (g c : ℕ) (hg : g < 16) (hc : 
         (ap (λ q. controlChanged g c q 121 v) i ∙ reset-at-once _ _ _ _ _ _ g c (kind-before .kind) _ v) refl rest
         .gives (flushedRecord r h c) (after-formed r f (flush h c)) (flush-state r f h c hh hc)
 
-    module _ (x y : ℕ) (hx : x < 128) (hy : y < 128) where
-      pub null-after-flush : wordsFrom (flushedRecord r h c) (control g c 121 v ∷ control g c 6 x ∷ control g c 38 y ∷ []) ≡ controlWords g c 121 v
-      null-after-flush = after-reset (null-entry g c hg hc (kind-before .kind) _ _ _ x y hx hy)
+    pub null-after-flush : (x y : ℕ) → x < 128 → y < 128
+        → wordsFrom (flushedRecord r h c) (control g c 121 v ∷ control g c 6 x ∷ control g c 38 y ∷ []) ≡ controlWords g c 121 v
+    null-after-flush x y hx hy = after-reset (null-entry g c hg hc (kind-before .kind) _ _ _ x y hx hy)
 
-      module _ (u : ℕ) (hu : u < 128) (other : u ≡ 0x7F → ⊥) where
-        abbrev HalfGives : ℕ → List ℕ → Type 0
-        HalfGives n words =
-            wordsFrom (flushedRecord r h c) (control g c 121 v ∷ control g c n u ∷ control g c 6 x ∷ control g c 38 y ∷ []) ≡ controlWords g c 121 v ++ words
+    pub half-after-flush : (n u : ℕ) → 98 ≤ n → n ≤ 101 → u < 128
+        → wordsFrom (flushedRecord r h c) (control g c 121 v ∷ control g c n u ∷ []) ≡ controlWords g c 121 v
+    half-after-flush n u l k hu =
+        after-reset (silent g c hg hc n u (omega arith) hu (half-after g c 128 128 128 128 _ _ _ u (kind-before .kind) n l k _ refl) (ended c _))
 
-        pub null-then-101 : HalfGives 101 (registeredWords c u 0x7F g (x * 2 ^ 7 + y))
-        null-then-101 =
-            after-reset (by-101 g c hg hc u 0x7F x y hu (omega arith) hx hy (kind-before .kind) (λ e. other (e .0)) (λ e. omega (arith, e .1)) 128 128 128 _ _ _)
-
-        pub null-then-100 : HalfGives 100 (registeredWords c 0x7F u g (x * 2 ^ 7 + y))
-        null-then-100 =
-            after-reset (by-100 g c hg hc 0x7F u x y (omega arith) hu hx hy (kind-before .kind) (λ e. other (e .1)) (λ e. omega (arith, e .0)) 128 128 128 _ _ _)
-
-        pub null-then-99 : HalfGives 99 (assignableWords c u 0x7F g (x * 2 ^ 7 + y))
-        null-then-99 = after-reset (by-99 g c hg hc u 0x7F x y hu (omega arith) hx hy (kind-before .kind) (λ e. other (e .0)) 128 128 128 _ _ _)
-
-        pub null-then-98 : HalfGives 98 (assignableWords c 0x7F u g (x * 2 ^ 7 + y))
-        null-then-98 = after-reset (by-98 g c hg hc 0x7F u x y (omega arith) hu hx hy (kind-before .kind) (λ e. other (e .1)) 128 128 128 _ _ _)
+  -- half a number where both are null
+  null-rules : SentNull (stateOn r c) → NullRules r g c
+  null-rules z =
+      let joined : (n u : ℕ) → 98 ≤ n → n ≤ 101 → u < 128 → (t : ChannelState) → selected (nulled (z .msb) (z .bank-m) (z .bank-l) (code (z .kind))) n u ≡ t → stateOn (recordAfter r (control g c n u)) c ≡ t =
+      λ n u l h hu t e. half n u l h hu ∙ ap (λ s. selected s n u) (z .is) ∙ e in
+      record {
+        then-101 =
+            λ m x y hm hx hy o.
+            registered-sent g c hg hc m 0x7F x y hx hy (λ e. o (e .0)) (λ e. omega (arith, e .1)) 128 128 _ _
+            .gives (recordAfter r (control g c 101 m)) (after-formed r f (translate-words (control g c 101 m)))
+            (joined 101 m (omega arith) (omega arith) hm _ (selected-101 _ (code-alone (z .kind)) m hm));
+        then-100 =
+            λ l x y hl hx hy o.
+            registered-sent g c hg hc 0x7F l x y hx hy (λ e. o (e .1)) (λ e. omega (arith, e .0)) 128 128 _ _
+            .gives (recordAfter r (control g c 100 l)) (after-formed r f (translate-words (control g c 100 l)))
+            (joined 100 l (omega arith) (omega arith) hl _ (selected-100 _ (code-alone (z .kind)) l hl));
+        then-99 =
+            λ m x y hm hx hy o.
+            assignable-sent g c hg hc m 0x7F x y hx hy (λ e. o (e .0)) 128 128 _ _
+            .gives (recordAfter r (control g c 99 m)) (after-formed r f (translate-words (control g c 99 m)))
+            (joined 99 m (omega arith) (omega arith) hm _ (selected-99 _ (code-alone (z .kind)) m hm));
+        then-98 =
+            λ l x y hl hx hy o.
+            assignable-sent g c hg hc 0x7F l x y hx hy (λ e. o (e .1)) 128 128 _ _
+            .gives (recordAfter r (control g c 98 l)) (after-formed r f (translate-words (control g c 98 l)))
+            (joined 98 l (omega arith) (omega arith) hl _ (selected-98 _ (code-alone (z .kind)) l hl));
+      }
 
   -- 38 after half a number
   module _ (v y : ℕ) (hv : v < 128) (hy : y < 128) where
@@ -718,7 +776,8 @@ module _ (r : Midi1ToMidi2Group) (f : Formed r) (g c : ℕ) (hg : g < 16) (hc : 
         ≡ registeredWords c m k g (x * 2 ^ 7 + y)
     unfolding translatorAfterAll
     other-kept-registered n o =
-        by-100 g c hg hc m k x y hm hk hx hy nrpn n o (l + 1) (a + 1) (b + 1) 0 (before .«bank_msb») (before .«bank_lsb»)
+        silent g c hg hc 100 k (omega arith) hk (second-100 g c (m + 1) (l + 1) (a + 1) (b + 1) 0 (before .«bank_msb») (before .«bank_lsb») k nrpn hk)
+        (registered-sent g c hg hc m k x y hx hy n o (a + 1) (b + 1) _ _)
         .gives _ (all-formed r f (control g c 101 m ∷ control g c 100 l ∷ control g c 99 a ∷ control g c 98 b ∷ []))
         (silent g c hg hc 100 l (omega arith) hl (second-100 g c _ _ _ _ _ _ _ l rpn hl)
         (silent g c hg hc 99 a (omega arith) ha (second-99 g c _ _ _ _ _ _ _ a rpn ha)
@@ -731,9 +790,45 @@ module _ (r : Midi1ToMidi2Group) (f : Formed r) (g c : ℕ) (hg : g < 16) (hc : 
         ≡ assignableWords c a k g (x * 2 ^ 7 + y)
     unfolding translatorAfterAll
     other-kept-assignable n =
-        by-98 g c hg hc a k x y ha hk hx hy rpn n (m + 1) (l + 1) (b + 1) 0 (before .«bank_msb») (before .«bank_lsb»)
+        silent g c hg hc 98 k (omega arith) hk (second-98 g c (m + 1) (l + 1) (a + 1) (b + 1) 0 (before .«bank_msb») (before .«bank_lsb») k rpn hk)
+        (assignable-sent g c hg hc a k x y hx hy n (m + 1) (l + 1) _ _)
         .gives _ (all-formed r f (control g c 99 a ∷ control g c 98 b ∷ control g c 101 m ∷ control g c 100 l ∷ []))
         (silent g c hg hc 98 b (omega arith) hb (second-98 g c _ _ _ _ _ _ _ b nrpn hb)
         (silent g c hg hc 101 m (omega arith) hm (second-101 g c _ _ _ _ _ _ _ m nrpn hm)
         (silent g c hg hc 100 l (omega arith) hl (second-100 g c _ _ _ _ _ _ _ l rpn hl) (ended c _)))
         .leaves (recordAfter r (control g c 99 a)) (after-formed r f (translate-words (control g c 99 a))) (half-99 a ha))
+
+-- 121, and `flush`, 38 or 6 after it
+module _ (r : Midi1ToMidi2Group) (f : Formed r) (g c v : ℕ) (hg : g < 16) (hc : c < 16) (hv : v < 128) where
+  abbrev reset : Midi1ToMidi2Group
+  reset = recordAfter r (control g c 121 v)
+
+  reset-formed : Formed reset
+  reset-formed = after-formed r f (translate-words (control g c 121 v))
+
+  reset-null : SentNull (stateOn reset c)
+  unfolding messageTranslated controlChanged
+  reset-null =
+      let a = on-allowed r f c hc .flags-of in
+      rw (state-of r f g 0xB c 121 v (fits-B g c 121 v hg hc (omega arith) hv)) (at (resets _ _ _ _ _ _ _) (stateOn r c .flags) (flags-lt (stateOn r c .flags) a) a)
+
+  pub null-rules-reset : NullRules reset g c
+  null-rules-reset = null-rules reset reset-formed g c hg hc reset-null
+
+  then-control : (n u : ℕ) → n < 128 → u < 128 → SentNull (controlChanged g c (stateOn reset c) n u .state)
+      → NullRules (recordAfterAll r (control g c 121 v ∷ control g c n u ∷ [])) g c
+  unfolding translatorAfterAll messageTranslated
+  then-control n u hn hu z =
+      null-rules (recordAfter reset (control g c n u)) (after-formed reset reset-formed (translate-words (control g c n u))) g c hg hc
+      (rw (state-of reset reset-formed g 0xB c n u (fits-B g c n u hg hc hn hu)) z)
+
+  pub null-rules-38 : (y : ℕ) → y < 128 → NullRules (recordAfterAll r (control g c 121 v ∷ control g c 38 y ∷ [])) g c
+  null-rules-38 y h = then-control 38 y (omega arith) h (null-after-38 (stateOn reset c) reset-null g c y)
+
+  pub null-rules-6 : (x : ℕ) → x < 128 → NullRules (recordAfterAll r (control g c 121 v ∷ control g c 6 x ∷ [])) g c
+  null-rules-6 x h = then-control 6 x (omega arith) h (null-after-6 (stateOn reset c) reset-null g c x h)
+
+  pub null-rules-flushed : (h : ℕ) → h < 16 → NullRules (flushedRecord reset h c) g c
+  null-rules-flushed h hh =
+      null-rules (flushedRecord reset h c) (after-formed reset reset-formed (flush h c)) g c hg hc
+      (rw (flush-state reset reset-formed h c hh hc) (null-flushed (stateOn reset c) reset-null))

@@ -4,7 +4,7 @@ use Rattle.translate_state.specs.declared.Midi1ToMidi2Group.{Midi1ToMidi2Group}
 use Rattle.translate_state.specs.State.{newRecord}
 use Rattle.translate.specs.Lists.{Formed}
 use Rattle.translate.specs.Rules.{NoNumberRules, TranslatedByRules}
-use Rattle.translate.proofs.Entries.{registered-entries, registered-entries-lsb-first, assignable-entries, assignable-entries-lsb-first, registered-null-entries, assignable-null-entries, mcm-entries, mcm-entries-lsb-first, null-after-flush, null-then-101, null-then-100, null-then-99, null-then-98, msb-ended, other-kept-registered, other-kept-assignable, without-number, with-half}
+use Rattle.translate.proofs.Entries.{registered-entries, registered-entries-lsb-first, assignable-entries, assignable-entries-lsb-first, registered-null-entries, assignable-null-entries, mcm-entries, mcm-entries-lsb-first, null-after-flush, half-after-flush, null-rules-reset, null-rules-38, null-rules-6, null-rules-flushed, msb-ended, other-kept-registered, other-kept-assignable, without-number, with-half}
 use Rattle.translate.proofs.Passing.{passing-rules, bank-rules, others-kept, others-kept-flushed, same-record}
 
 pub translated-by-rules : (r : Midi1ToMidi2Group) → Formed r → TranslatedByRules r
@@ -21,10 +21,11 @@ translated-by-rules r f =
       mcm = λ g c hg hc. mcm-entries r f g c hg hc;
       mcm-lsb-first = λ g c hg hc. mcm-entries-lsb-first r f g c hg hc;
       reset-null = λ g h c v x y hg hh hc hv hx hy. null-after-flush r f g c hg hc h v hh hv x y hx hy;
-      reset-then-101 = λ g h c v m x y hg hh hc hv hm hx hy n. null-then-101 r f g c hg hc h v hh hv x y hx hy m hm n;
-      reset-then-100 = λ g h c v l x y hg hh hc hv hl hx hy n. null-then-100 r f g c hg hc h v hh hv x y hx hy l hl n;
-      reset-then-99 = λ g h c v m x y hg hh hc hv hm hx hy n. null-then-99 r f g c hg hc h v hh hv x y hx hy m hm n;
-      reset-then-98 = λ g h c v l x y hg hh hc hv hl hx hy n. null-then-98 r f g c hg hc h v hh hv x y hx hy l hl n;
+      reset-then-half = λ g h c v n u hg hh hc hv l k hu. half-after-flush r f g c hg hc h v hh hv n u l k hu;
+      reset-numbers = λ g c v hg hc hv. null-rules-reset r f g c v hg hc hv;
+      reset-numbers-38 = λ g c v y hg hc hv hy. null-rules-38 r f g c v hg hc hv y hy;
+      reset-numbers-6 = λ g c v x hg hc hv hx. null-rules-6 r f g c v hg hc hv x hx;
+      reset-numbers-flushed = λ g h c v hg hh hc hv. null-rules-flushed r f g c v hg hc hv h hh;
       number-ends-msb = λ g c n v y hg hc l h hv hy. msb-ended r f g c hg hc v y hv hy n l h;
       registered-kept =
           λ g c m l a b k x y hg hc hm hl ha hb hk hx hy n o. other-kept-registered r f g c hg hc m l a b hm hl ha hb k x y hk hx hy n o;

@@ -145,6 +145,17 @@ pub record McmRules (r : Midi1ToMidi2Group) (g c first second : ℕ) : Type 0 wh
   pub not-pending : (h x : ℕ) → h < 16 → x < 128
       → flushReply (recordAfterAll r (first ∷ second ∷ control g c 6 x ∷ [])) h c ≡ given []
 
+-- both numbers are null, 7F 7F: half a number joins 7F (RP-015)
+pub record NullRules (r : Midi1ToMidi2Group) (g c : ℕ) : Type 0 where
+  pub then-101 : (m x y : ℕ) → m < 128 → x < 128 → y < 128 → (m ≡ 0x7F → ⊥)
+      → wordsFrom (recordAfter r (control g c 101 m)) (control g c 6 x ∷ control g c 38 y ∷ []) ≡ registeredWords c m 0x7F g (x * 2 ^ 7 + y)
+  pub then-100 : (l x y : ℕ) → l < 128 → x < 128 → y < 128 → (l ≡ 0x7F → ⊥)
+      → wordsFrom (recordAfter r (control g c 100 l)) (control g c 6 x ∷ control g c 38 y ∷ []) ≡ registeredWords c 0x7F l g (x * 2 ^ 7 + y)
+  pub then-99 : (m x y : ℕ) → m < 128 → x < 128 → y < 128 → (m ≡ 0x7F → ⊥)
+      → wordsFrom (recordAfter r (control g c 99 m)) (control g c 6 x ∷ control g c 38 y ∷ []) ≡ assignableWords c m 0x7F g (x * 2 ^ 7 + y)
+  pub then-98 : (l x y : ℕ) → l < 128 → x < 128 → y < 128 → (l ≡ 0x7F → ⊥)
+      → wordsFrom (recordAfter r (control g c 98 l)) (control g c 6 x ∷ control g c 38 y ∷ []) ≡ assignableWords c 0x7F l g (x * 2 ^ 7 + y)
+
 -- of a new record: entries without a number, or with half of one, give nothing (D.3.3)
 pub record NoNumberRules (new : Midi1ToMidi2Group) : Type 0 where
   pub no-number : (g c x y : ℕ) → g < 16 → c < 16 → x < 128 → y < 128 → wordsFrom new (control g c 6 x ∷ control g c 38 y ∷ []) ≡ []
@@ -173,19 +184,16 @@ pub record TranslatedByRules (r : Midi1ToMidi2Group) : Type 0 where
   -- where nothing is pending, as after `flush`, 121 makes the number null at once (RP-015)
   pub reset-null : (g h c v x y : ℕ) → g < 16 → h < 16 → c < 16 → v < 128 → x < 128 → y < 128
       → wordsFrom (flushedRecord r h c) (control g c 121 v ∷ control g c 6 x ∷ control g c 38 y ∷ []) ≡ controlWords g c 121 v
-  -- all four halves are 7F then: one that follows joins 7F, of either kind
-  pub reset-then-101 : (g h c v m x y : ℕ) → g < 16 → h < 16 → c < 16 → v < 128 → m < 128 → x < 128 → y < 128 → (m ≡ 0x7F → ⊥)
-      → wordsFrom (flushedRecord r h c) (control g c 121 v ∷ control g c 101 m ∷ control g c 6 x ∷ control g c 38 y ∷ [])
-      ≡ controlWords g c 121 v ++ registeredWords c m 0x7F g (x * 2 ^ 7 + y)
-  pub reset-then-100 : (g h c v l x y : ℕ) → g < 16 → h < 16 → c < 16 → v < 128 → l < 128 → x < 128 → y < 128 → (l ≡ 0x7F → ⊥)
-      → wordsFrom (flushedRecord r h c) (control g c 121 v ∷ control g c 100 l ∷ control g c 6 x ∷ control g c 38 y ∷ [])
-      ≡ controlWords g c 121 v ++ registeredWords c 0x7F l g (x * 2 ^ 7 + y)
-  pub reset-then-99 : (g h c v m x y : ℕ) → g < 16 → h < 16 → c < 16 → v < 128 → m < 128 → x < 128 → y < 128 → (m ≡ 0x7F → ⊥)
-      → wordsFrom (flushedRecord r h c) (control g c 121 v ∷ control g c 99 m ∷ control g c 6 x ∷ control g c 38 y ∷ [])
-      ≡ controlWords g c 121 v ++ assignableWords c m 0x7F g (x * 2 ^ 7 + y)
-  pub reset-then-98 : (g h c v l x y : ℕ) → g < 16 → h < 16 → c < 16 → v < 128 → l < 128 → x < 128 → y < 128 → (l ≡ 0x7F → ⊥)
-      → wordsFrom (flushedRecord r h c) (control g c 121 v ∷ control g c 98 l ∷ control g c 6 x ∷ control g c 38 y ∷ [])
-      ≡ controlWords g c 121 v ++ assignableWords c 0x7F l g (x * 2 ^ 7 + y)
+  pub reset-then-half : (g h c v n u : ℕ) → g < 16 → h < 16 → c < 16 → v < 128 → 98 ≤ n → n ≤ 101 → u < 128
+      → wordsFrom (flushedRecord r h c) (control g c 121 v ∷ control g c n u ∷ []) ≡ controlWords g c 121 v
+  -- both numbers are 7F 7F then, and where a value was pending once it is sent: at 98 to 101, at 38, at 6, or by `flush`
+  pub reset-numbers : (g c v : ℕ) → g < 16 → c < 16 → v < 128 → NullRules (recordAfter r (control g c 121 v)) g c
+  pub reset-numbers-38 : (g c v y : ℕ) → g < 16 → c < 16 → v < 128 → y < 128
+      → NullRules (recordAfterAll r (control g c 121 v ∷ control g c 38 y ∷ [])) g c
+  pub reset-numbers-6 : (g c v x : ℕ) → g < 16 → c < 16 → v < 128 → x < 128
+      → NullRules (recordAfterAll r (control g c 121 v ∷ control g c 6 x ∷ [])) g c
+  pub reset-numbers-flushed : (g h c v : ℕ) → g < 16 → h < 16 → c < 16 → v < 128
+      → NullRules (flushedRecord (recordAfter r (control g c 121 v)) h c) g c
   -- each of 98 to 101 ends the held MSB: a 38 without a new 6 gives nothing (D.3.3)
   pub number-ends-msb : (g c n v y : ℕ) → g < 16 → c < 16 → 98 ≤ n → n ≤ 101 → v < 128 → y < 128
       → wordsFrom (recordAfter r (control g c n v)) (control g c 38 y ∷ []) ≡ []
