@@ -361,6 +361,11 @@ module _ (g c : ℕ) (hg : g < 16) (hc : c < 16) (k : Kind) (a1 a2 a3 a4 rm rl n
                 (hold bm bl x hx
                 (said g c hg hc 38 y (omega arith) hy _ (entry g (x * 2 ^ 7 + y)) (first-38 rm rl nm nl bm bl g c k x y) (read g (x * 2 ^ 7 + y))
                 (again bm bl x z hz)));
+            no-value =
+                λ y hy.
+                words-from
+                (silent g c hg hc n2 v2 hn hv (select 0 bm bl)
+                (silent g c hg hc 38 y (omega arith) hy (none-38 rm rl nm nl bm bl g c k y) (ended c _)));
             completed-then-6 =
                 λ x y z w hx hy hz hw.
                 words-from
@@ -379,11 +384,6 @@ module _ (g c : ℕ) (hg : g < 16) (hc : c < 16) (k : Kind) (a1 a2 a3 a4 rm rl n
                 let e : stateOn q c ≡ waiting x bm bl (code k) = hold bm bl x hx (complete bm bl x y hy) .leaves (recordAfter r first) after-first start in
                 flush-answer q (all-formed r f (first ∷ control g c n2 v2 ∷ control g c 6 x ∷ control g c 38 y ∷ [])) h c hh hc
                 ∙ rw (e, none-pending rm rl nm nl bm bl h c k (x + 1));
-            no-value =
-                λ y hy.
-                words-from
-                (silent g c hg hc n2 v2 hn hv (select 0 bm bl)
-                (silent g c hg hc 38 y (omega arith) hy (none-38 rm rl nm nl bm bl g c k y) (ended c _)));
             ended-by-6 =
                 λ x z w hx hz hw.
                 words-from

@@ -92,6 +92,7 @@ pub record EntryRules (r : Midi1ToMidi2Group) (g c first second : ℕ) (entry : 
   pub again-by-38 : (x y z : ℕ) → x < 128 → y < 128 → z < 128
       → wordsFrom (recordAfter r first) (second ∷ control g c 6 x ∷ control g c 38 y ∷ control g c 38 z ∷ [])
       ≡ entry g (x * 2 ^ 7 + y) ++ entry g (x * 2 ^ 7 + z)
+  pub no-value : (y : ℕ) → y < 128 → wordsFrom (recordAfter r first) (second ∷ control g c 38 y ∷ []) ≡ []
   -- what a 38 completed is not sent again at the next 6, at 98 to 101, or by `flush`
   pub completed-then-6 : (x y z w : ℕ) → x < 128 → y < 128 → z < 128 → w < 128
       → wordsFrom (recordAfter r first) (second ∷ control g c 6 x ∷ control g c 38 y ∷ control g c 6 z ∷ control g c 38 w ∷ [])
@@ -100,7 +101,6 @@ pub record EntryRules (r : Midi1ToMidi2Group) (g c first second : ℕ) (entry : 
       → wordsFrom (recordAfter r first) (second ∷ control g c 6 x ∷ control g c 38 y ∷ control g c n v ∷ []) ≡ entry g (x * 2 ^ 7 + y)
   pub completed-then-flushed : (h x y : ℕ) → h < 16 → x < 128 → y < 128
       → flushReply (recordAfterAll r (first ∷ second ∷ control g c 6 x ∷ control g c 38 y ∷ [])) h c ≡ given []
-  pub no-value : (y : ℕ) → y < 128 → wordsFrom (recordAfter r first) (second ∷ control g c 38 y ∷ []) ≡ []
   -- a 6 that no 38 follows has LSB 0: it is sent at the next 6, at 98 to 101, or by `flush`, once
   pub ended-by-6 : (x z w : ℕ) → x < 128 → z < 128 → w < 128
       → wordsFrom (recordAfter r first) (second ∷ control g c 6 x ∷ control g c 6 z ∷ control g c 38 w ∷ [])
@@ -111,7 +111,7 @@ pub record EntryRules (r : Midi1ToMidi2Group) (g c first second : ℕ) (entry : 
       → flushReply (recordAfterAll r (first ∷ second ∷ control g c 6 x ∷ [])) h c ≡ given (entry h (x * 2 ^ 7))
   pub flushed-once : (h x : ℕ) → h < 16 → x < 128
       → flushReply (flushedRecord (recordAfterAll r (first ∷ second ∷ control g c 6 x ∷ [])) h c) h c ≡ given []
-  -- the MSB is held still: a 38 sends it again with its LSB
+  -- the MSB is held still: a 38 sends it again with its LSB (D.3.3)
   pub flushed-then-38 : (h x y : ℕ) → h < 16 → x < 128 → y < 128
       → wordsFrom (flushedRecord (recordAfterAll r (first ∷ second ∷ control g c 6 x ∷ [])) h c) (control g c 38 y ∷ []) ≡ entry g (x * 2 ^ 7 + y)
   -- 121 passes on; what is pending is still sent, with LSB 0 even at 38, and then the number is null (RP-015)
