@@ -13,11 +13,12 @@ use Rattle.receiving_end.specs.declared.end.Reply.{Reply}
 use Rattle.receiving_end.specs.declared.end.Reply.the-variants.{Quiet, Dropped, RealTime, Message}
 use Rattle.receiving_end.specs.End.{newEnd, messageAt, answerStep, stepOf, stepReply, stepEnd}
 use Rattle.translate_state.specs.declared.Midi1ToMidi2Group.{Midi1ToMidi2Group}
+use Rattle.translate_state.specs.State.{newRecord}
 use Rattle.translate.specs.Translate.{translationOf, flushReply}
-use Rattle.translate.specs.Lists.{TranslatorCall, translate-words, translatorAfterAll, Given, with-words}
+use Rattle.translate.specs.Lists.{TranslatorCall, translate-words, flush, translatorAfter, translatorAfterAll, Given, with-words}
 use Rattle.translate.proofs.Exact.{exactly-accepted}
 use Rattle.midi2_text.specs.declared.cable.Cable.{Cable}
-use Rattle.midi2_text.specs.Cable.{newCable, replyWords, replyRecord, heardReply, heardCable, cableAfter, messageIn, messagesRead}
+use Rattle.midi2_text.specs.Cable.{newCable, replyWords, replyRecord, heardReply, heardCable, flushedCable, cableAfter, flushedAfter, messageIn, messagesRead}
 
 -- one byte more before a list, and no bytes
 pub one-more : (c d : Cable) (b : ℕ) (bs : List ℕ) → d ≡ heardCable c b → cableAfter c (b ∷ bs) ≡ cableAfter d bs
@@ -27,6 +28,14 @@ one-more c d b bs p = rw p
 pub none-after : (c : Cable) → cableAfter c [] ≡ c
 unfolding cableAfter
 none-after c = refl
+
+pub one-flush-more : (c d : Cable) (k : ℕ) (ks : List ℕ) → d ≡ flushedCable c k → flushedAfter c (k ∷ ks) ≡ flushedAfter d ks
+unfolding flushedAfter
+one-flush-more c d k ks p = rw p
+
+pub no-flush-after : (c : Cable) → flushedAfter c [] ≡ c
+unfolding flushedAfter
+no-flush-after c = refl
 
 -- the calls on the translator for the messages that an end reads
 abbrev callsFor : End → List ℕ → List TranslatorCall
@@ -46,6 +55,17 @@ unfolding cableAfter messagesRead translatorAfterAll
 translator-after c [] = refl
 translator-after c (b ∷ bs) =
     rw (translator-after (heardCable c b) bs) (call-first (c .translator) (stepReply (c .end) b) (messagesRead (stepEnd (c .end) b) bs))
+
+-- flushes are calls on it too, and they go on from the record that the messages leave
+translator-flushed : (c : Cable) (ks : List ℕ) → flushedAfter c ks .translator ≡ translatorAfterAll (c .translator) (map (flush 0) ks)
+unfolding flushedAfter translatorAfterAll
+translator-flushed c [] = refl
+translator-flushed c (k ∷ ks) = translator-flushed (flushedCable c k) ks
+
+calls-after-calls : (t : Midi1ToMidi2Group) (a b : List TranslatorCall) → translatorAfterAll (translatorAfterAll t a) b ≡ translatorAfterAll t (a ++ b)
+unfolding translatorAfterAll
+calls-after-calls t [] b = refl
+calls-after-calls t (x ∷ a) b = calls-after-calls (translatorAfter t x) a b
 
 -- the reader of an end after a byte
 answer-reader : (e : End) (r : Reader) (x : Read) → answerStep e r x .end .reader ≡ r
@@ -83,12 +103,18 @@ module _ (bs : List ℕ) where
   unfolding stepOf
   heard-answered b = reply-answered (cableAfter newCable bs .translator) (cableAfter newCable bs .end) _ _ (word-answered b)
 
-  flushed-answered : (k : ℕ) → Given (flushReply (cableAfter newCable bs .translator) 0 k)
-  flushed-answered k = rw (translator-after newCable bs) (exactly-accepted .flush-answered (callsFor newEnd bs) 0 k)
+  flushed-answered : (ks : List ℕ) (k : ℕ) → Given (flushReply (flushedAfter (cableAfter newCable bs) ks .translator) 0 k)
+  flushed-answered ks k =
+      rw (
+        translator-flushed (cableAfter newCable bs) ks,
+        translator-after newCable bs,
+        calls-after-calls newRecord (callsFor newEnd bs) (map (flush 0) ks),
+      )
+      (exactly-accepted .flush-answered (callsFor newEnd bs ++ map (flush 0) ks) 0 k)
 
 module _ (c : Cable) (new : c ≡ newCable) (bs : List ℕ) where
   pub byte-answered : (b : ℕ) → Given (heardReply (cableAfter c bs) b)
   byte-answered b = rw new (heard-answered bs b)
 
-  pub flush-answered : (k : ℕ) → Given (flushReply (cableAfter c bs .translator) 0 k)
-  flush-answered k = rw new (flushed-answered bs k)
+  pub flush-answered : (ks : List ℕ) (k : ℕ) → Given (flushReply (flushedAfter (cableAfter c bs) ks .translator) 0 k)
+  flush-answered ks k = rw new (flushed-answered bs ks k)

@@ -48,6 +48,11 @@ unfoldable pub cableAfter : Cable → List ℕ → Cable
 cableAfter c [] = c
 cableAfter c (b ∷ bs) = cableAfter (heardCable c b) bs
 
+-- the cable after the pending entries of channels are sent
+unfoldable pub flushedAfter : Cable → List ℕ → Cable
+flushedAfter c [] = c
+flushedAfter c (k ∷ ks) = flushedAfter (flushedCable c k) ks
+
 -- the words of bytes, in order
 unfoldable pub heardWords : Cable → List ℕ → List ℕ
 heardWords c [] = []

@@ -5,7 +5,7 @@ ghost use Prim.Native.Nat.{ℕ};
 ghost use Rattle.receiving_end.specs.End.{newEnd};
 ghost use Rattle.translate.specs.Translate.{translationRead, flushReply};
 ghost use Rattle.translate.specs.Lists.{wordsAnswered, wordsOf, Given};
-ghost use Rattle.midi2_text.specs.Cable.{cableOf, newCable, replyWords, replyRecord, heardReply, heardCable, flushedCable, cableAfter, heardWords, messagesRead, flushedWords};
+ghost use Rattle.midi2_text.specs.Cable.{cableOf, newCable, replyWords, replyRecord, heardReply, heardCable, flushedCable, cableAfter, flushedAfter, heardWords, messagesRead, flushedWords};
 use byte_call::step;
 use receiving_end::end::End;
 use receiving_end::end::Reply;
@@ -59,12 +59,12 @@ fn of_parts(end: End, translated: Translated) -> Heard
 }
 
 impl Cable {
-    // A new end and a new translator. The words of its bytes are those of the messages that the end reads, and after whatever bytes no byte and no flush
-    // is declined.
+    // A new end and a new translator. The words of its bytes are those of the messages that the end reads, and after whatever bytes no byte is declined,
+    // and no flush, whatever channels were flushed before it.
     pub fn new() -> Cable
         ensures is { λ r. ⌜ r ≡ newCable ⌝ }
         ensures messages { λ r. ⌜ ((bytes : List ℕ) → heardWords r bytes ≡ wordsOf (messagesRead newEnd bytes)) ⌝ }
-        ensures answered { λ r. ⌜ ((bytes : List ℕ) (byte : ℕ) → Given (heardReply (cableAfter r bytes) byte)) × ((bytes : List ℕ) (channel : ℕ) → Given (flushReply (cableAfter r bytes .translator) 0 channel)) ⌝ }
+        ensures answered { λ r. ⌜ ((bytes : List ℕ) (byte : ℕ) → Given (heardReply (cableAfter r bytes) byte)) × ((bytes channels : List ℕ) (channel : ℕ) → Given (flushReply (flushedAfter (cableAfter r bytes) channels .translator) 0 channel)) ⌝ }
     {
         Cable {
             end: End::new(),
@@ -92,6 +92,7 @@ impl Cable {
         ensures reply { λ r. ⌜ translationRead (r .reply) ≡ flushReply (self .translator) 0 channel ⌝ }
         ensures cable { λ r. ⌜ r .cable ≡ flushedCable self channel ⌝ }
         ensures list { λ r. ⌜ ((channels : List ℕ) → flushedWords self (channel ∷ channels) ≡ wordsAnswered (translationRead (r .reply)) ++ flushedWords (r .cable) channels) × (flushedWords self [] ≡ []) ⌝ }
+        ensures after { λ r. ⌜ ((channels : List ℕ) → flushedAfter self (channel ∷ channels) ≡ flushedAfter (r .cable) channels) × (flushedAfter self [] ≡ self) ⌝ }
     {
         let end = self.end;
         let translator = self.translator;

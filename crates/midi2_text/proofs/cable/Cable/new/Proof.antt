@@ -13,7 +13,7 @@ new-requires-2 : tie.Need-new-requires-2
 new-requires-2 c κs = search needs
 
 returns : tie.Need-returns
-returns c = (cc, (λ bytes. new-messages _ (cc) bytes, (λ bytes byte. byte-answered _ (cc) bytes byte, λ bytes channel. flush-answered _ (cc) bytes channel)))
+returns c = (cc, (λ bytes. new-messages _ (cc) bytes, (λ bytes byte. byte-answered _ (cc) bytes byte, λ bytes channels channel. flush-answered _ (cc) bytes channels channel)))
 
 pub new-spec : {M : Type 1} → statement M
 new-spec = tie.close (tie.spec new-requires new-requires-2 returns)
