@@ -17,6 +17,7 @@ use Rattle.translate.specs.declared.Translation.the-variants.{Nothing}
 use Rattle.translate.specs.Translate.{translationRead, pendingWords, channelStep, controlChanged, messageTranslated, withState, wordStep, translationOf, recordAfter, flushReply, flushedRecord}
 use Rattle.translate.specs.Lists.{translate-words, flush, wordsAnswered, wordsFrom, translatorAfterAll, control, Formed}
 use Rattle.translate.specs.Rules.{recordAfterAll}
+use Rattle.translate.proofs.Refused.{answer-accepted, record-accepted}
 use Rattle.translate.proofs.Always.{on-set, after-formed}
 
 -- parts that fit, of a word that has the form of a message
@@ -65,10 +66,12 @@ module _ (r : Midi1ToMidi2Group) (f : Formed r) (g o c a b : ℕ) (m : Fits g o 
       messageTranslated (group-of-word g o c a b p i) (channel-of-word g o c a b p i) (stateOn r (channel-of-word g o c a b p i)) (opcode-of-word g o c a b p i) (first-of-word g o c a b p i) (second-of-word g o c a b p i)
 
   pub answer-of : translationOf r (wordOf g o c a b) ≡ translationRead (messageTranslated g c (stateOn r c) o a b .reply)
-  answer-of = rw (f .allowed, m .form) (λ i. translationRead (by-parts i .reply))
+  answer-of = answer-accepted r (wordOf g o c a b) (f .allowed) (m .form) ∙ (λ i. translationRead (by-parts i .reply))
 
   pub record-of : recordAfter r (wordOf g o c a b) ≡ withState r c (messageTranslated g c (stateOn r c) o a b .state)
-  record-of = rw (f .allowed, m .form) (λ i. withState r (channel-of-word g o c a b (m .parts) i) (by-parts i .state))
+  record-of =
+      record-accepted r (wordOf g o c a b) (f .allowed) (m .form)
+      ∙ (λ i. withState r (channel-of-word g o c a b (m .parts) i) (by-parts i .state))
 
   pub state-of : stateOn (recordAfter r (wordOf g o c a b)) c ≡ messageTranslated g c (stateOn r c) o a b .state
   state-of = ap (λ q. stateOn q c) record-of ∙ on-set r f c _ (m .parts .channel-lt)

@@ -9,6 +9,8 @@ use Rattle.translate_state.specs.declared.ChannelState.{ChannelState}
 use Rattle.translate_state.specs.declared.Midi1ToMidi2Group.{Midi1ToMidi2Group}
 use Rattle.translate_state.specs.State.{stateOn, stateAllowed, recordAllowed}
 use Rattle.translate_state.proofs.Allowed.{Allowed, parts-allowed, one-refused}
+use Rattle.ump.specs.Word.{channelOf, wordForm}
+use Rattle.translate.specs.Translate.{translationRead, withState, wordStep, translationOf, recordAfter}
 use Rattle.translate.specs.Lists.{byteOf, byteAllowed, OthersRefused}
 use Rattle.translate.proofs.Each.{Each, nothing, _and_, at}
 
@@ -44,3 +46,12 @@ others-refused r =
           let e : recordAllowed r ≡ false = one-refused (r .state) 16 c h (state-refused (stateOn r c) k l n) in
           (rw e, rw e);
     }
+
+-- a record that is accepted is not: a message is answered, and leaves what its channel's state becomes
+pub answer-accepted : (r : Midi1ToMidi2Group) (w : ℕ) → recordAllowed r ≡ true → wordForm w ≡ true
+    → translationOf r w ≡ translationRead (wordStep r w .reply)
+answer-accepted r w a m = rw (a, m)
+
+pub record-accepted : (r : Midi1ToMidi2Group) (w : ℕ) → recordAllowed r ≡ true → wordForm w ≡ true
+    → recordAfter r w ≡ withState r (channelOf w) (wordStep r w .state)
+record-accepted r w a m = rw (a, m)

@@ -6,6 +6,19 @@ ghost use Rattle.translate_state.specs.State.{valueIn, newRecord};
 ghost use Rattle.translate.specs.Translate.{translationRead, givenOr0, firstWord, controllerData, controllerNumbered, controller, joinedValue, pendingWords, channelStep, enteredAfter, msbEntered, lsbEntered, passedOn, controlChanged, bankWords, programWords, noteWords, messageTranslated, withState, translationOf, recordAfter, flushReply, flushedRecord};
 ghost use Rattle.translate.specs.Lists.{translate-words, flush, TranslatorGives, ListContinues, Formed, ExactlyAccepted, OthersRefused, OthersMet};
 ghost use Rattle.translate.specs.Rules.{NoNumberRules, TranslatedByRules};
+
+mod channel;
+
+use channel::HELD_NULL;
+use channel::bank_sent;
+use channel::complete;
+use channel::enter;
+use channel::hold_bank_lsb;
+use channel::hold_bank_msb;
+use channel::mcm;
+use channel::pending_sent;
+use channel::reset_controllers;
+use channel::select;
 use scale::Scaled;
 use scale::upscale;
 use scale::zero_extend_upscale;
@@ -17,9 +30,6 @@ use ump::channel_voice1::group;
 use ump::channel_voice1::is_message;
 use ump::channel_voice1::opcode;
 use ump::channel_voice1::second_data;
-
-// The held value 0x7F, of which the null number has two.
-const HELD_NULL: u8 = 0x80;
 
 // What a message gives: the two words of a MIDI 2.0 message, or nothing.
 pub enum Translation {
@@ -196,8 +206,8 @@ fn entered_after(state: ChannelState, out: Translation, group: u8, channel: u8) 
             reply: Translation::Words(a, b),
         },
         Translation::Nothing => {
-            if state.mcm() {
-                return step_of(state.pending_sent(), pending_words(state, group, channel));
+            if mcm(state) {
+                return step_of(pending_sent(state), pending_words(state, group, channel));
             }
             step_of(state, Translation::Nothing)
         }
@@ -214,8 +224,8 @@ fn enter_msb(state: ChannelState, group: u8, channel: u8, value: u8) -> Stepped
     ensures { λ r. ⌜ r ≡ msbEntered group channel state value ⌝ }
 {
     let out = pending_words(state, group, channel);
-    let sent = state.pending_sent();
-    entered_after(sent.enter(value), out, group, channel)
+    let sent = pending_sent(state);
+    entered_after(enter(sent, value), out, group, channel)
 }
 
 // Data Entry LSB, controller 38.
@@ -224,13 +234,13 @@ fn enter_lsb(state: ChannelState, group: u8, channel: u8, value: u8) -> Stepped
     ensures { λ r. ⌜ r ≡ lsbEntered group channel state value ⌝ }
 {
     if state.flags / 8 % 2 == 1 {
-        return step_of(state.pending_sent(), pending_words(state, group, channel));
+        return step_of(pending_sent(state), pending_words(state, group, channel));
     }
     if state.data_msb == 0 {
         return step_of(state, Translation::Nothing);
     }
     step_of(
-        state.complete(),
+        complete(state),
         controller(
             state,
             group,
@@ -246,20 +256,20 @@ fn control_change(state: ChannelState, group: u8, channel: u8, index: u8, value:
     ensures { λ r. ⌜ r ≡ controlChanged group channel state index value ⌝ }
 {
     if index == 0 {
-        return step_of(state.hold_bank_msb(value), Translation::Nothing);
+        return step_of(hold_bank_msb(state, value), Translation::Nothing);
     }
     if index == 6 {
         return enter_msb(state, group, channel, value);
     }
     if index == 32 {
-        return step_of(state.hold_bank_lsb(value), Translation::Nothing);
+        return step_of(hold_bank_lsb(state, value), Translation::Nothing);
     }
     if index == 38 {
         return enter_lsb(state, group, channel, value);
     }
     if index == 121 {
         return step_of(
-            state.reset_controllers(),
+            reset_controllers(state),
             passed_on(group, channel, 0xB, index, value),
         );
     }
@@ -269,9 +279,9 @@ fn control_change(state: ChannelState, group: u8, channel: u8, index: u8, value:
     if 101 < index {
         return step_of(state, passed_on(group, channel, 0xB, index, value));
     }
-    let sent = state.pending_sent();
+    let sent = pending_sent(state);
     step_of(
-        sent.select(index, value),
+        select(sent, index, value),
         pending_words(state, group, channel),
     )
 }
@@ -332,7 +342,7 @@ fn step(state: ChannelState, group: u8, channel: u8, opcode: u8, a: u8, b: u8) -
         return control_change(state, group, channel, a, b);
     }
     if opcode == 0xC {
-        return step_of(state.bank_sent(), program_words(state, group, channel, a));
+        return step_of(bank_sent(state), program_words(state, group, channel, a));
     }
     if opcode == 0xD {
         return step_of(state, passed_on(group, channel, 0xD, 0, a));
@@ -421,7 +431,7 @@ pub fn flush(translator: Midi1ToMidi2Group, group: u8, channel: u8) -> Translate
     if translator.is_allowed() {
         let c = channel % 16;
         let s = translator.state[c as usize];
-        let next = step_of(s.pending_sent(), pending_words(s, group % 16, c));
+        let next = step_of(pending_sent(s), pending_words(s, group % 16, c));
         return replying(translator, c as usize, next);
     }
     Translated {

@@ -21,28 +21,38 @@ valueIn x = x - 1
 abbrev pub kindIn : ℕ → ℕ
 kindIn f = f % 4
 
+-- a bit of the flags, set and cleared
+abbrev pub bitIn : ℕ → ℕ → Bool
+bitIn k f = eqb (field k 1 f) 1
+
+abbrev pub withBit : ℕ → ℕ → ℕ
+withBit k f = if bitIn k f then f else f + 2 ^ k
+
+abbrev pub withoutBit : ℕ → ℕ → ℕ
+withoutBit k f = if bitIn k f then f - 2 ^ k else f
+
 -- bit 2: a Data Entry MSB is held that was not sent
 abbrev pub pendingIn : ℕ → Bool
-pendingIn f = eqb (field 2 1 f) 1
+pendingIn f = bitIn 2 f
 
 -- bit 3: Reset All Controllers came while it was held, and the selection is null once it is sent
 abbrev pub nullAfterIn : ℕ → Bool
-nullAfterIn f = eqb (field 3 1 f) 1
+nullAfterIn f = bitIn 3 f
 
 abbrev pub withKind : ℕ → ℕ → ℕ
 withKind f kind = f / 4 * 4 + kind
 
 abbrev pub withPending : ℕ → ℕ
-withPending f = if pendingIn f then f else f + 4
+withPending f = withBit 2 f
 
 abbrev pub withoutPending : ℕ → ℕ
-withoutPending f = if pendingIn f then f - 4 else f
+withoutPending f = withoutBit 2 f
 
 abbrev pub withNullAfter : ℕ → ℕ
-withNullAfter f = if nullAfterIn f then f else f + 8
+withNullAfter f = withBit 3 f
 
 abbrev pub withoutNullAfter : ℕ → ℕ
-withoutNullAfter f = if nullAfterIn f then f - 8 else f
+withoutNullAfter f = withoutBit 3 f
 
 -- a channel of these bytes: registered number, non-registered number, Data Entry MSB, bank, flags
 abbrev pub channelState : ℕ → ℕ → ℕ → ℕ → ℕ → ℕ → ℕ → ℕ → ChannelState

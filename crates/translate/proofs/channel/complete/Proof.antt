@@ -1,9 +1,9 @@
--- `translate_state::ChannelState::complete` meets its contract.
+-- `translate::channel::complete` meets its contract.
 -- Assumes nothing.
 use borrow.Author.Needs.{needs}
-use Rattle.translate_state.proofs.ChannelState.complete.Statement.{statement}
-use Rattle.translate_state.proofs.ChannelState.complete.Tie as tie
+use Rattle.translate.proofs.channel.complete.Statement.{statement}
+use Rattle.translate.proofs.channel.complete.Tie as tie
 use Rattle.translate_state.specs.State.{completed}
 
 without-pending-requires : tie.Need-without-pending-requires
 without-pending-requires c κs = search needs

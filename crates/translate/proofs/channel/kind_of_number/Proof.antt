@@ -1,7 +1,7 @@
--- `translate_state::kind_of_number` meets its contract.
+-- `translate::channel::kind_of_number` meets its contract.
 -- Assumes nothing.
-use Rattle.translate_state.proofs.kind_of_number.Statement.{statement}
-use Rattle.translate_state.proofs.kind_of_number.Tie as tie
+use Rattle.translate.proofs.channel.kind_of_number.Statement.{statement}
+use Rattle.translate.proofs.channel.kind_of_number.Tie as tie
 use Rattle.ump.proofs.Auto.{auto}
 
 returns : tie.Need-returns

@@ -1,8 +1,8 @@
--- `translate_state::with_null_after` meets its contract.
+-- `translate::channel::with_null_after` meets its contract.
 -- Assumes nothing.
 use borrow.Author.Needs.{needs}
-use Rattle.translate_state.proofs.with_null_after.Statement.{statement}
-use Rattle.translate_state.proofs.with_null_after.Tie as tie
+use Rattle.translate.proofs.channel.with_null_after.Statement.{statement}
+use Rattle.translate.proofs.channel.with_null_after.Tie as tie
 use Rattle.ump.proofs.Auto.{auto}
 
 returns : tie.Need-returns

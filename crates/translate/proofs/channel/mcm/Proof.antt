@@ -1,9 +1,9 @@
--- `translate_state::ChannelState::mcm` meets its contract.
+-- `translate::channel::mcm` meets its contract.
 -- Assumes nothing.
-use Rattle.translate_state.proofs.ChannelState.mcm.Statement.{statement}
-use Rattle.translate_state.proofs.ChannelState.mcm.Tie as tie
+use Rattle.translate.proofs.channel.mcm.Statement.{statement}
+use Rattle.translate.proofs.channel.mcm.Tie as tie
 use Rattle.ump.proofs.Auto.{auto}
 use Rattle.translate_state.specs.State.{mcmSelected}
 
 returns : tie.Need-returns
 unfolding mcmSelected

@@ -1,8 +1,8 @@
--- `translate_state::ChannelState::nulled` meets its contract.
+-- `translate::channel::nulled` meets its contract.
 -- Assumes nothing.
 use borrow.Author.Needs.{needs}
-use Rattle.translate_state.proofs.ChannelState.nulled.Statement.{statement}
-use Rattle.translate_state.proofs.ChannelState.nulled.Tie as tie
+use Rattle.translate.proofs.channel.nulled.Statement.{statement}
+use Rattle.translate.proofs.channel.nulled.Tie as tie
 
 without-null-after-requires : tie.Need-without-null-after-requires
 without-null-after-requires c κs = search needs

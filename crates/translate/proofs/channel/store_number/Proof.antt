@@ -1,8 +1,8 @@
--- `translate_state::ChannelState::store_number` meets its contract.
+-- `translate::channel::store_number` meets its contract.
 -- Assumes nothing.
 use borrow.Author.Needs.{needs}
-use Rattle.translate_state.proofs.ChannelState.store_number.Statement.{statement}
-use Rattle.translate_state.proofs.ChannelState.store_number.Tie as tie
+use Rattle.translate.proofs.channel.store_number.Statement.{statement}
+use Rattle.translate.proofs.channel.store_number.Tie as tie
 use Rattle.ump.proofs.Auto.{auto}
 
 add-s : tie.Need-add-s

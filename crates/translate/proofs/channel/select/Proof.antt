@@ -1,10 +1,10 @@
--- `translate_state::ChannelState::select` meets its contract.
+-- `translate::channel::select` meets its contract.
 -- Assumes nothing.
 use borrow.Author.Needs.{needs}
-use Rattle.translate_state.proofs.ChannelState.select.Statement.{statement}
-use Rattle.translate_state.proofs.ChannelState.select.Tie as tie
+use Rattle.translate.proofs.channel.select.Statement.{statement}
+use Rattle.translate.proofs.channel.select.Tie as tie
 use Rattle.ump.proofs.Auto.{auto}
 use Rattle.translate_state.specs.State.{selected}
 
 store-number-requires : tie.Need-store-number-requires
 store-number-requires c κs = search needs

@@ -1,10 +1,10 @@
--- `translate_state::ChannelState::pending_sent` meets its contract.
+-- `translate::channel::pending_sent` meets its contract.
 -- Assumes nothing.
 use borrow.Author.Needs.{needs}
-use Rattle.translate_state.proofs.ChannelState.pending_sent.Statement.{statement}
-use Rattle.translate_state.proofs.ChannelState.pending_sent.Tie as tie
+use Rattle.translate.proofs.channel.pending_sent.Statement.{statement}
+use Rattle.translate.proofs.channel.pending_sent.Tie as tie
 use Rattle.ump.proofs.Auto.{auto}
 use Rattle.translate_state.specs.State.{pendingSent}
 
 without-pending-requires : tie.Need-without-pending-requires
 without-pending-requires c κs = search needs

@@ -1,10 +1,10 @@
--- `translate_state::ChannelState::reset_controllers` meets its contract.
+-- `translate::channel::reset_controllers` meets its contract.
 -- Assumes nothing.
 use borrow.Author.Needs.{needs}
-use Rattle.translate_state.proofs.ChannelState.reset_controllers.Statement.{statement}
-use Rattle.translate_state.proofs.ChannelState.reset_controllers.Tie as tie
+use Rattle.translate.proofs.channel.reset_controllers.Statement.{statement}
+use Rattle.translate.proofs.channel.reset_controllers.Tie as tie
 use Rattle.ump.proofs.Auto.{auto}
 use Rattle.translate_state.specs.State.{controllersReset}
 
 with-null-after-requires : tie.Need-with-null-after-requires
 with-null-after-requires c κs = search needs

@@ -1,8 +1,8 @@
--- `translate_state::without_null_after` meets its contract.
+-- `translate::channel::without_null_after` meets its contract.
 -- Assumes nothing.
 use borrow.Author.Needs.{needs}
-use Rattle.translate_state.proofs.without_null_after.Statement.{statement}
-use Rattle.translate_state.proofs.without_null_after.Tie as tie
+use Rattle.translate.proofs.channel.without_null_after.Statement.{statement}
+use Rattle.translate.proofs.channel.without_null_after.Tie as tie
 use Rattle.ump.proofs.Auto.{auto}
 
 sub-result : tie.Need-sub-result

@@ -1,9 +1,9 @@
--- `translate_state::ChannelState::enter` meets its contract.
+-- `translate::channel::enter` meets its contract.
 -- Assumes nothing.
 use borrow.Author.Needs.{needs}
-use Rattle.translate_state.proofs.ChannelState.enter.Statement.{statement}
-use Rattle.translate_state.proofs.ChannelState.enter.Tie as tie
+use Rattle.translate.proofs.channel.enter.Statement.{statement}
+use Rattle.translate.proofs.channel.enter.Tie as tie
 use Rattle.translate_state.specs.State.{entryHeld}
 
 add-with-entry : tie.Need-add-with-entry
 add-with-entry c = search needs

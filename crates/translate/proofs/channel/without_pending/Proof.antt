@@ -1,8 +1,8 @@
--- `translate_state::without_pending` meets its contract.
+-- `translate::channel::without_pending` meets its contract.
 -- Assumes nothing.
 use borrow.Author.Needs.{needs}
-use Rattle.translate_state.proofs.without_pending.Statement.{statement}
-use Rattle.translate_state.proofs.without_pending.Tie as tie
+use Rattle.translate.proofs.channel.without_pending.Statement.{statement}
+use Rattle.translate.proofs.channel.without_pending.Tie as tie
 use Rattle.ump.proofs.Auto.{auto}
 
 sub-result : tie.Need-sub-result
