@@ -1,5 +1,6 @@
 //! The items of a trace and their calls, in the order of docs/REPLAY.md.
 
+use crate::allocator::Allocator;
 use crate::answer::{self, numbers, ok, with_buffer, words, Answer, Refusal};
 use crate::arguments::Arguments;
 use crate::end::{End, Reply};
@@ -58,7 +59,8 @@ pub fn length(operation: u8) -> Option<usize> {
         0x01 | 0x02 | 0x07 | 0x08 | 0x37 | 0x38 | 0x44 | 0x62 | 0x63 | 0x83 => 1,
         0x03 | 0x04 | 0x05 | 0x10 | 0x15 | 0x16 | 0x42 | 0x51 | 0x82 => 2,
         0x12..=0x14 | 0x52 | 0x84 => 3,
-        0x11 | 0x18 | 0x21 | 0x35 | 0x50 | 0x54 | 0x61 | 0x81 => 4,
+        0x11 | 0x18 | 0x21 | 0x35 | 0x50 | 0x54 | 0x61 | 0x67 | 0x81 => 4,
+        0x68 => 5,
         0x20 | 0x86..=0x89 => 6,
         0x17 | 0x55 => 7,
         0x53 => 8,
@@ -88,7 +90,7 @@ pub struct States {
     end: End,
     parameters: ParameterState,
     receiver: MpeReceiver,
-    allocator: MpeNoteAllocator,
+    allocator: Allocator,
     record: Record,
 }
 
@@ -98,7 +100,7 @@ impl States {
             end: End::new(),
             parameters: ParameterState::new(),
             receiver: MpeReceiver::new(),
-            allocator: MpeNoteAllocator::new(),
+            allocator: Allocator::new(),
             record: Record::new(),
         }
     }
@@ -190,16 +192,21 @@ impl States {
     fn allocator_item(&mut self, operation: u8, arguments: &mut Arguments) -> Answer {
         let allocator = &mut self.allocator;
         match operation {
-            0x60 => *allocator = MpeNoteAllocator::new(),
+            0x60 => *allocator = Allocator::new(),
             0x61 => {
                 let layout = arguments.layout()?;
                 let (zone, note) = (arguments.zone(), arguments.byte());
                 return channel_or_none(allocator.note_on(layout, zone, note));
             }
-            0x62 => allocator.note_off(arguments.channel()),
-            0x63 => allocator.set_same_note(arguments.flag()),
-            0x64 => allocator.reset(),
-            0x65 => return Ok(allocator_reading(allocator)),
+            0x62 => allocator.upstream.note_off(arguments.channel()),
+            0x63 => allocator.upstream.set_same_note(arguments.flag()),
+            0x64 => allocator.upstream.reset(),
+            0x65 => return Ok(allocator_reading(&allocator.upstream)),
+            0x67 => allocator.set_clock(arguments.four()),
+            0x68 => {
+                let channel = arguments.channel();
+                allocator.set_last_release(channel, arguments.four());
+            }
             _ => unreachable!("an unknown operation has no length"),
         }
         ok()

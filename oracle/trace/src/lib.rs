@@ -1,8 +1,11 @@
 //! Answers a trace (docs/REPLAY.md) by the Rust: reads items from a text, makes each call on
 //! upstream's own code, and writes one answer line for each.
 
+mod allocator;
+mod allocator_fields;
 mod answer;
 mod arguments;
+mod debug_text;
 mod end;
 mod items;
 mod pairs;

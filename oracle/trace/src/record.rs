@@ -13,6 +13,7 @@
 use std::sync::LazyLock;
 
 use crate::answer::Refusal;
+use crate::debug_text::shape_and_numbers;
 use zmidi_ump::translate::Midi1ToMidi2Group;
 use zmidi_ump::{Channel, Group};
 
@@ -47,18 +48,10 @@ fn from_bytes(bytes: [u8; SIZE]) -> Midi1ToMidi2Group {
 /// The numbers of one channel in upstream's text of it, which must have the shape known here.
 fn numbers_of(text: &str) -> [u8; FIELDS] {
     let text = &text[..=text.find('}').expect("a channel's text ends")];
-    let mut shape = String::new();
-    for character in text.chars() {
-        match character.is_ascii_digit() {
-            false => shape.push(character),
-            true if !shape.ends_with('#') => shape.push('#'),
-            true => {}
-        }
-    }
+    let (shape, numbers) = shape_and_numbers(text);
     assert_eq!(shape, SHAPE, "upstream's channel has other fields");
-    let numbers = text.split(|character: char| !character.is_ascii_digit());
-    let numbers: Vec<u8> = numbers.filter_map(|number| number.parse().ok()).collect();
-    numbers.try_into().expect("a channel has eight bytes")
+    let numbers: [u32; FIELDS] = numbers.try_into().expect("a channel has eight bytes");
+    numbers.map(|number| u8::try_from(number).expect("a byte"))
 }
 
 /// The fields by upstream's `Debug`.
