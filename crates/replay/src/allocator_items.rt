@@ -1,4 +1,4 @@
-// Items 60 to 65: the note allocator.
+// Items 60 to 68: the note allocator.
 use crate::arguments;
 use crate::arguments::Item;
 use crate::line::Line;
@@ -47,16 +47,42 @@ fn note_on(allocator: MpeNoteAllocator, item: Item) -> AllocatorAnswered {
     }
 }
 
+// The allocator with another release clock.
+fn with_clock(allocator: MpeNoteAllocator, clock: u32) -> MpeNoteAllocator {
+    let mut a = allocator;
+    a.clock = clock;
+    a
+}
+
+// The allocator with another last release of a channel.
+fn with_last_release(allocator: MpeNoteAllocator, channel: u8, release: u32) -> MpeNoteAllocator {
+    let k = (channel % 16) as usize;
+    let mut a = allocator;
+    a.last_off[k] = release;
+    a
+}
+
 // The allocator after an item that answers nothing.
-fn changed(allocator: MpeNoteAllocator, operation: u8, argument: u8) -> MpeNoteAllocator {
+fn changed(allocator: MpeNoteAllocator, item: Item) -> MpeNoteAllocator {
+    let operation = item.operation;
     if operation == 0x60 {
         return MpeNoteAllocator::new();
     }
     if operation == 0x62 {
-        return allocator.note_off(argument);
+        return allocator.note_off(item.a1);
     }
     if operation == 0x63 {
-        return allocator.set_same_note(argument != 0);
+        return allocator.set_same_note(item.a1 != 0);
+    }
+    if operation == 0x67 {
+        return with_clock(
+            allocator,
+            arguments::four(item.a1, item.a2, item.a3, item.a4),
+        );
+    }
+    if operation == 0x68 {
+        let release = arguments::four(item.a2, item.a3, item.a4, item.a5);
+        return with_last_release(allocator, item.a1, release);
     }
     allocator.reset()
 }
@@ -74,7 +100,7 @@ pub(crate) fn answer(allocator: MpeNoteAllocator, item: Item) -> AllocatorAnswer
         };
     }
     AllocatorAnswered {
-        allocator: changed(allocator, operation, item.a1),
+        allocator: changed(allocator, item),
         line: Line::new(),
     }
 }
