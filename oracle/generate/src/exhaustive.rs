@@ -4,6 +4,7 @@ use crate::calls::range;
 use crate::items::Items;
 use crate::midi2;
 use crate::settings::{Channel, Settings, Zone};
+use crate::ties;
 use crate::values::is_legal;
 
 /// Sensitivities for the pitch functions: nothing, the usual ones, those whose range meets exact
@@ -52,6 +53,7 @@ pub fn trace(name: &str) -> Option<()> {
         "narrowing" => midi2::narrowing(&mut items),
         "translations" => midi2::translations(&mut items),
         "records" => midi2::records_table(&mut items),
+        "ties" => ties::table(&mut items),
         _ => return None,
     }
     Some(())

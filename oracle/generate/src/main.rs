@@ -18,6 +18,7 @@ mod restatement;
 mod scaling;
 mod sender;
 mod settings;
+mod ties;
 mod translation;
 mod triples;
 mod ump;
@@ -54,8 +55,8 @@ impl Generator {
 /// A phrase: a few items of one kind that belong together.
 type Phrase = fn(&mut Generator);
 
-/// The kinds, and how often each is chosen beside the others.
-const KINDS: [(&str, Phrase, u32); 12] = [
+/// The kinds, and how often each is chosen beside the others; one with 0 only where it is named.
+const KINDS: [(&str, Phrase, u32); 13] = [
     ("end", end::phrase, 6),
     ("layout", calls::layout, 3),
     ("ump", ump::phrase, 3),
@@ -68,15 +69,16 @@ const KINDS: [(&str, Phrase, u32); 12] = [
     ("restatement", restatement::phrase, 1),
     ("translate", translation::phrase, 6),
     ("scale", scaling::phrase, 3),
+    ("lower_notes", allocator::lower_notes, 0),
 ];
 
 const USAGE: &str = "usage: generate SEED COUNT [KIND..]
        generate --exhaustive NAME
        generate --triples SEED COUNT
 KIND: end layout ump pitch apply parameters receiver sender allocator restatement translate scale
-      (by default all)
+      (by default all of these) lower_notes
 NAME: layouts packets constructors words announcements classes sensitivities settings pitch
-      scaling narrowing translations records";
+      scaling narrowing translations records ties";
 
 /// The kinds named, each as often as it is to be chosen; none for a name that is no kind.
 fn chosen(names: &[String]) -> Option<Vec<Phrase>> {
@@ -86,9 +88,12 @@ fn chosen(names: &[String]) -> Option<Vec<Phrase>> {
     }
     let mut phrases = Vec::new();
     for (kind, phrase, weight) in KINDS {
-        if names.is_empty() || names.iter().any(|name| name == kind) {
-            phrases.extend((0..weight).map(|_| phrase));
-        }
+        let times = match names.iter().any(|name| name == kind) {
+            true => weight.max(1),
+            false if names.is_empty() => weight,
+            false => 0,
+        };
+        phrases.extend((0..times).map(|_| phrase));
     }
     Some(phrases)
 }
