@@ -100,10 +100,10 @@ note-by a t mark c false y f k = declined-kept (a .active) t k
 note-kept : (a : MpeNoteAllocator) (t : Tally) (l : MpeLayout) (zone : MpeZone) (note : ℕ) → Kept (a .active) t → Kept (allocationOf a l zone note .allocator .active) (noted t (got (allocationOf a l zone note .reply)) (allocationOf a l zone note .allocator .active))
 unfolding allocationOf
 note-kept a t l zone note k =
-    note-by a t (markOf note) (choice a (markOf note) (lowestOf l zone) (membersOf l zone - 1)) (legal l) (eqb (membersOf l zone) 0)
+    note-by a t (markOf note) (choice a zone (markOf note) (lowestOf l zone) (membersOf l zone - 1)) (legal l) (eqb (membersOf l zone) 0)
     (λ h e.
     let n : membersOf l zone ≡ 0 → ⊥ = eqb-false (membersOf l zone) 0 e in
-    omega (arith, members-end l zone h, choice-foremost a (markOf note) (lowestOf l zone) (membersOf l zone - 1) .below))
+    omega (arith, members-end l zone h, choice-foremost a zone (markOf note) (lowestOf l zone) (membersOf l zone - 1) .below))
     k
 
 off-by : (a : MpeNoteAllocator) (t : Tally) (c : ℕ) (x : Bool) → eqb (heldOn a c) 0 ≡ x → c < 16 → Kept (a .active) t

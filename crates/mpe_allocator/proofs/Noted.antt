@@ -18,10 +18,10 @@ use Rattle.mpe_allocator.specs.declared.Allocation.{Allocation}
 use Rattle.mpe_allocator.specs.declared.NoteReply.the-variants.{Channel, OutOfRange, NoMembers}
 use Rattle.mpe_allocator.specs.Choice.{markOf, Foremost, Chosen, choice}
 use Rattle.mpe_allocator.specs.Allocator.{noteReplyRead, answered, placedOn, Placed, AllocatedAs, illegal, empty, placed, allocationOf}
-use Rattle.mpe_allocator.specs.Claims.{OfChannel, ChosenIsMember, OneChosen, RecallChosen, LeastChosen}
+use Rattle.mpe_allocator.specs.Claims.{OfChannel, ChosenIsMember, OneChosen, RecallChosen, LeastChosen, OnlyTiesTurned}
 use Rattle.mpe_allocator.specs.Calls.{note-on, note-reply, CallGives}
 use Rattle.mpe_allocator.proofs.Search.{only-one, choice-foremost}
-use Rattle.mpe_allocator.proofs.Read.{chosen-is-member, one-chosen, recall-chosen, least-chosen}
+use Rattle.mpe_allocator.proofs.Read.{chosen-is-member, one-chosen, recall-chosen, least-chosen, only-ties-turned}
 
 -- ---- what `lowest_member` and `members` answered
 
@@ -82,8 +82,8 @@ members-end l Lower h = omega (arith, members-le l Lower h)
 members-end l Upper h = omega (arith, members-le l Upper h)
 
 -- the same channels under other names
-moved : (a : MpeNoteAllocator) (mark first n x y c : ℕ) → first ≡ x → n ≡ y → Foremost a mark first (first + n) c → Foremost a mark x (x + y) c
-moved a mark first n x y c p q f = rw (← p, ← q) f
+moved : (a : MpeNoteAllocator) (zone : MpeZone) (mark first n x y c : ℕ) → first ≡ x → n ≡ y → Foremost a zone mark first (first + n) c → Foremost a zone mark x (x + y) c
+moved a zone mark first n x y c p q f = rw (← p, ← q) f
 
 -- ---- what the note gets
 
@@ -105,7 +105,8 @@ module _ (a : MpeNoteAllocator) (l : MpeLayout) (zone : MpeZone) (note : ℕ) wh
       × (CallGives a (note-on l zone note) (note-reply (r .reply)) (r .allocator)
       × (OfChannel (r .reply) (ChosenIsMember l zone)
       × (OfChannel (r .reply) (OneChosen a l zone note)
-      × (OfChannel (r .reply) (RecallChosen a l zone note) × OfChannel (r .reply) (LeastChosen a l zone note))))))
+      × (OfChannel (r .reply) (RecallChosen a l zone note)
+      × (OfChannel (r .reply) (LeastChosen a l zone note) × OfChannel (r .reply) (OnlyTiesTurned a l zone note)))))))
 
   listed : (r : Allocation) → r ≡ allocationOf a l zone note → CallGives a (note-on l zone note) (note-reply (r .reply)) (r .allocator)
   listed r e = (ap (λ (x : Allocation). note-reply (x .reply)) e, ap (λ (x : Allocation). x .allocator) e)
@@ -114,28 +115,29 @@ module _ (a : MpeNoteAllocator) (l : MpeLayout) (zone : MpeZone) (note : ℕ) wh
   unfolding allocationOf
   in-illegal h =
       let e : answered a OutOfRange ≡ allocationOf a l zone note = rw h in
-      (illegal h, (e, (listed (answered a OutOfRange) e, (not-out _, (not-out _, (not-out _, not-out _))))))
+      (illegal h, (e, (listed (answered a OutOfRange) e, (not-out _, (not-out _, (not-out _, (not-out _, not-out _)))))))
 
   pub in-empty : legal l ≡ true → membersOf l zone ≡ 0 → Promised (answered a NoMembers)
   unfolding allocationOf
   in-empty h m =
       let e : answered a NoMembers ≡ allocationOf a l zone note = rw (h, eq-eqb (membersOf l zone) 0 m) in
-      (empty h m, (e, (listed (answered a NoMembers) e, (not-none _, (not-none _, (not-none _, not-none _))))))
+      (empty h m, (e, (listed (answered a NoMembers) e, (not-none _, (not-none _, (not-none _, (not-none _, not-none _)))))))
 
   pub in-zone : legal l ≡ true → 0 < membersOf l zone → (c : ℕ) → Chosen a l zone note c → Promised (placedOn a (markOf note) c)
   unfolding allocationOf
   in-zone h n c f =
       let m : lowestOf l zone + suc (membersOf l zone - 1) ≡ lowestOf l zone + membersOf l zone = omega arith in
-      let g = rw m at (choice-foremost a (markOf note) (lowestOf l zone) (membersOf l zone - 1)) in
-      let d : c ≡ choice a (markOf note) (lowestOf l zone) (membersOf l zone - 1) = only-one a (markOf note) (lowestOf l zone) (lowestOf l zone + membersOf l zone) c _ f g in
+      let g = rw m at (choice-foremost a zone (markOf note) (lowestOf l zone) (membersOf l zone - 1)) in
+      let d : c ≡ choice a zone (markOf note) (lowestOf l zone) (membersOf l zone - 1) = only-one a zone (markOf note) (lowestOf l zone) (lowestOf l zone + membersOf l zone) c _ f g in
       let e : placedOn a (markOf note) c ≡ allocationOf a l zone note = rw (h, ne-eqb (membersOf l zone) 0 (λ z. omega arith), ← d) in
       let member = the-channel _ c (chosen-is-member a l zone note c h f) in
       let one = the-channel _ c (one-chosen a l zone note c f) in
       let recall = the-channel _ c (recall-chosen a l zone note c f) in
       let least = the-channel _ c (least-chosen a l zone note c f) in
-      (placed h f, (e, (listed (placedOn a (markOf note) c) e, (member, (one, (recall, least))))))
+      let turned = the-channel _ c (only-ties-turned a l zone note c f) in
+      (placed h f, (e, (listed (placedOn a (markOf note) c) e, (member, (one, (recall, (least, turned)))))))
 
-  pub in-channels : (first n : ℕ) (r : Allocation) → legal l ≡ true → 0 < membersOf l zone → first ≡ lowestOf l zone → n ≡ membersOf l zone → Placed a (markOf note) first (first + n) r → Promised r
+  pub in-channels : (first n : ℕ) (r : Allocation) → legal l ≡ true → 0 < membersOf l zone → first ≡ lowestOf l zone → n ≡ membersOf l zone → Placed a zone (markOf note) first (first + n) r → Promised r
   in-channels first n r h m p q d =
       subst Promised (sym (d .is))
-      (in-zone h m (d .channel) (moved a (markOf note) first n (lowestOf l zone) (membersOf l zone) (d .channel) p q (d .foremost)))
+      (in-zone h m (d .channel) (moved a zone (markOf note) first n (lowestOf l zone) (membersOf l zone) (d .channel) p q (d .foremost)))

@@ -8,6 +8,8 @@ use native.Mathlib.Omega.{arith}
 use lib.Dec.{ltb, eqb}
 use borrow.Author.Tests.{lt-ltb, ltb-true, ltb-false, le-leb, leb-true, leb-false, eq-eqb, ne-eqb, eqb-true, eqb-false}
 use Rattle.ump.specs.Choice.{if_then_else_}
+use Rattle.mpe_layout.specs.declared.MpeZone.{MpeZone}
+use Rattle.mpe_layout.specs.declared.MpeZone.the-variants.{Lower, Upper}
 use Rattle.mpe_allocator.specs.declared.MpeNoteAllocator.{MpeNoteAllocator}
 use Rattle.mpe_allocator.specs.Choice.{heldOn, releasedOn, tieFirst, smallerFirst, recallsOn, latestFirst, idlestFirst, byRecall, goesFirst}
 
@@ -24,7 +26,7 @@ pub view : (x y : ℕ) (t : Bool) → smallerFirst x y t ≡ true → (x < y) �
 unfolding smallerFirst
 view x y t h = by-test x y t (eqb x y) refl h
 
-less : (x y : ℕ) (t : Bool) → x < y → smallerFirst x y t ≡ true
+pub less : (x y : ℕ) (t : Bool) → x < y → smallerFirst x y t ≡ true
 unfolding smallerFirst
 less x y t h = rw (ne-eqb x y (λ e. omega arith), lt-ltb x y h)
 
@@ -56,31 +58,35 @@ smaller-total : (x y : ℕ) (t u : Bool) → (t ≡ false → u ≡ true) → sm
 unfolding smallerFirst
 smaller-total x y t u f h = total-by x y t u (eqb x y) refl f h
 
-smaller-anti : (x y : ℕ) (t u : Bool) → smallerFirst x y t ≡ true → smallerFirst y x u ≡ true → (t ≡ true) × (u ≡ true)
+pub smaller-anti : (x y : ℕ) (t u : Bool) → smallerFirst x y t ≡ true → smallerFirst y x u ≡ true → (x ≡ y) × (t ≡ true) × (u ≡ true)
 smaller-anti x y t u p q =
     ⊎-elim
     (λ (l : x < y). ⊎-elim (λ (m : y < x). absurd (omega arith)) (λ (m : (y ≡ x) × (u ≡ true)). absurd (omega arith)) (view y x u q))
     (λ (e : (x ≡ y) × (t ≡ true)).
-    ⊎-elim (λ (m : y < x). absurd (omega arith)) (λ (m : (y ≡ x) × (u ≡ true)). (e .1, m .1)) (view y x u q))
+    ⊎-elim (λ (m : y < x). absurd (omega arith)) (λ (m : (y ≡ x) × (u ≡ true)). (e .0, e .1, m .1)) (view y x u q))
     (view x y t p)
 
 -- ---- the tie
 
-tie-trans : (c b d : ℕ) → tieFirst c b ≡ true → tieFirst b d ≡ true → tieFirst c d ≡ true
+tie-trans : (zone : MpeZone) (c b d : ℕ) → tieFirst zone c b ≡ true → tieFirst zone b d ≡ true → tieFirst zone c d ≡ true
 unfolding tieFirst
-tie-trans c b d p q = le-leb c d (omega (arith, leb-true c b p, leb-true b d q))
+tie-trans Lower c b d p q = le-leb c d (omega (arith, leb-true c b p, leb-true b d q))
+tie-trans Upper c b d p q = le-leb d c (omega (arith, leb-true b c p, leb-true d b q))
 
-tie-total : (c b : ℕ) → tieFirst c b ≡ false → tieFirst b c ≡ true
+tie-total : (zone : MpeZone) (c b : ℕ) → tieFirst zone c b ≡ false → tieFirst zone b c ≡ true
 unfolding tieFirst
-tie-total c b p = le-leb b c (omega (arith, leb-false c b p))
+tie-total Lower c b p = le-leb b c (omega (arith, leb-false c b p))
+tie-total Upper c b p = le-leb c b (omega (arith, leb-false b c p))
 
-tie-anti : (c b : ℕ) → tieFirst c b ≡ true → tieFirst b c ≡ true → c ≡ b
+tie-anti : (zone : MpeZone) (c b : ℕ) → tieFirst zone c b ≡ true → tieFirst zone b c ≡ true → c ≡ b
 unfolding tieFirst
-tie-anti c b p q = omega (arith, leb-true c b p, leb-true b c q)
+tie-anti Lower c b p q = omega (arith, leb-true c b p, leb-true b c q)
+tie-anti Upper c b p q = omega (arith, leb-true b c p, leb-true c b q)
 
-tie-refl : (c : ℕ) → tieFirst c c ≡ true
+tie-refl : (zone : MpeZone) (c : ℕ) → tieFirst zone c c ≡ true
 unfolding tieFirst
-tie-refl c = le-leb c c (omega arith)
+tie-refl Lower c = le-leb c c (omega arith)
+tie-refl Upper c = le-leb c c (omega arith)
 
 -- ---- those that recall, before the others
 
@@ -101,12 +107,12 @@ recall-total true false f g i j m n x = never x
 recall-total false true f g i j m n x = refl
 recall-total false false f g i j m n x = n x
 
-recall-anti : (p q f g i j : Bool) → byRecall p q f i ≡ true → byRecall q p g j ≡ true → ((f ≡ true) × (g ≡ true)) ⊎ ((i ≡ true) × (j ≡ true))
+pub recall-anti : (p q f g i j : Bool) → byRecall p q f i ≡ true → byRecall q p g j ≡ true → ((p ≡ true) × (q ≡ true) × (f ≡ true) × (g ≡ true)) ⊎ ((p ≡ false) × (q ≡ false) × (i ≡ true) × (j ≡ true))
 unfolding byRecall
-recall-anti true true f g i j x y = inl (x, y)
+recall-anti true true f g i j x y = inl (refl, refl, x, y)
 recall-anti true false f g i j x y = never (cc)
 recall-anti false true f g i j x y = never (cc)
-recall-anti false false f g i j x y = inr (x, y)
+recall-anti false false f g i j x y = inr (refl, refl, x, y)
 
 recall-refl : (p f i : Bool) → f ≡ true → i ≡ true → byRecall p p f i ≡ true
 unfolding byRecall
@@ -115,70 +121,70 @@ recall-refl false f i x y = y
 
 -- ---- the order
 
-module _ (a : MpeNoteAllocator) (mark : ℕ) where
-  latest-trans : (c b d : ℕ) → latestFirst a c b ≡ true → latestFirst a b d ≡ true → latestFirst a c d ≡ true
+module _ (a : MpeNoteAllocator) (zone : MpeZone) (mark : ℕ) where
+  latest-trans : (c b d : ℕ) → latestFirst a zone c b ≡ true → latestFirst a zone b d ≡ true → latestFirst a zone c d ≡ true
   unfolding latestFirst
   latest-trans c b d p q =
-      smaller-trans (releasedOn a d) (releasedOn a b) (releasedOn a c) (tieFirst b d) (tieFirst c b) (tieFirst c d) (λ x y. tie-trans c b d y x) q p
+      smaller-trans (releasedOn a d) (releasedOn a b) (releasedOn a c) (tieFirst zone b d) (tieFirst zone c b) (tieFirst zone c d) (λ x y. tie-trans zone c b d y x) q p
 
-  idlest-trans : (c b d : ℕ) → idlestFirst a c b ≡ true → idlestFirst a b d ≡ true → idlestFirst a c d ≡ true
+  idlest-trans : (c b d : ℕ) → idlestFirst a zone c b ≡ true → idlestFirst a zone b d ≡ true → idlestFirst a zone c d ≡ true
   unfolding idlestFirst
   idlest-trans c b d =
       smaller-trans (heldOn a c) (heldOn a b) (heldOn a d) _ _ _
-      (smaller-trans (releasedOn a c) (releasedOn a b) (releasedOn a d) (tieFirst c b) (tieFirst b d) (tieFirst c d) (tie-trans c b d))
+      (smaller-trans (releasedOn a c) (releasedOn a b) (releasedOn a d) (tieFirst zone c b) (tieFirst zone b d) (tieFirst zone c d) (tie-trans zone c b d))
 
-  pub first-trans : (c b d : ℕ) → goesFirst a mark c b ≡ true → goesFirst a mark b d ≡ true → goesFirst a mark c d ≡ true
+  pub first-trans : (c b d : ℕ) → goesFirst a zone mark c b ≡ true → goesFirst a zone mark b d ≡ true → goesFirst a zone mark c d ≡ true
   unfolding goesFirst
   first-trans c b d p q =
-      recall-trans (recallsOn a mark c) (recallsOn a mark b) (recallsOn a mark d) (latestFirst a c b) (latestFirst a b d) (latestFirst a c d) (idlestFirst a c b) (idlestFirst a b d) (idlestFirst a c d)
+      recall-trans (recallsOn a mark c) (recallsOn a mark b) (recallsOn a mark d) (latestFirst a zone c b) (latestFirst a zone b d) (latestFirst a zone c d) (idlestFirst a zone c b) (idlestFirst a zone b d) (idlestFirst a zone c d)
       (latest-trans c b d) (idlest-trans c b d) p q
 
-  latest-total : (c b : ℕ) → latestFirst a c b ≡ false → latestFirst a b c ≡ true
+  latest-total : (c b : ℕ) → latestFirst a zone c b ≡ false → latestFirst a zone b c ≡ true
   unfolding latestFirst
-  latest-total c b = smaller-total (releasedOn a b) (releasedOn a c) (tieFirst c b) (tieFirst b c) (tie-total c b)
+  latest-total c b = smaller-total (releasedOn a b) (releasedOn a c) (tieFirst zone c b) (tieFirst zone b c) (tie-total zone c b)
 
-  idlest-total : (c b : ℕ) → idlestFirst a c b ≡ false → idlestFirst a b c ≡ true
+  idlest-total : (c b : ℕ) → idlestFirst a zone c b ≡ false → idlestFirst a zone b c ≡ true
   unfolding idlestFirst
   idlest-total c b =
       smaller-total (heldOn a c) (heldOn a b) _ _
-      (smaller-total (releasedOn a c) (releasedOn a b) (tieFirst c b) (tieFirst b c) (tie-total c b))
+      (smaller-total (releasedOn a c) (releasedOn a b) (tieFirst zone c b) (tieFirst zone b c) (tie-total zone c b))
 
-  pub first-total : (c b : ℕ) → goesFirst a mark c b ≡ false → goesFirst a mark b c ≡ true
+  pub first-total : (c b : ℕ) → goesFirst a zone mark c b ≡ false → goesFirst a zone mark b c ≡ true
   unfolding goesFirst
   first-total c b p =
-      recall-total (recallsOn a mark c) (recallsOn a mark b) (latestFirst a c b) (latestFirst a b c) (idlestFirst a c b) (idlestFirst a b c)
+      recall-total (recallsOn a mark c) (recallsOn a mark b) (latestFirst a zone c b) (latestFirst a zone b c) (idlestFirst a zone c b) (idlestFirst a zone b c)
       (latest-total c b) (idlest-total c b) p
 
-  latest-anti : (c b : ℕ) → latestFirst a c b ≡ true → latestFirst a b c ≡ true → c ≡ b
+  latest-anti : (c b : ℕ) → latestFirst a zone c b ≡ true → latestFirst a zone b c ≡ true → c ≡ b
   unfolding latestFirst
   latest-anti c b p q =
-      let t = smaller-anti (releasedOn a b) (releasedOn a c) (tieFirst c b) (tieFirst b c) p q in
-      tie-anti c b (t .0) (t .1)
+      let t = smaller-anti (releasedOn a b) (releasedOn a c) (tieFirst zone c b) (tieFirst zone b c) p q in
+      tie-anti zone c b (t .1) (t .2)
 
-  idlest-anti : (c b : ℕ) → idlestFirst a c b ≡ true → idlestFirst a b c ≡ true → c ≡ b
+  idlest-anti : (c b : ℕ) → idlestFirst a zone c b ≡ true → idlestFirst a zone b c ≡ true → c ≡ b
   unfolding idlestFirst
   idlest-anti c b p q =
       let s = smaller-anti (heldOn a c) (heldOn a b) _ _ p q in
-      let t = smaller-anti (releasedOn a c) (releasedOn a b) (tieFirst c b) (tieFirst b c) (s .0) (s .1) in
-      tie-anti c b (t .0) (t .1)
+      let t = smaller-anti (releasedOn a c) (releasedOn a b) (tieFirst zone c b) (tieFirst zone b c) (s .1) (s .2) in
+      tie-anti zone c b (t .1) (t .2)
 
-  pub first-anti : (c b : ℕ) → goesFirst a mark c b ≡ true → goesFirst a mark b c ≡ true → c ≡ b
+  pub first-anti : (c b : ℕ) → goesFirst a zone mark c b ≡ true → goesFirst a zone mark b c ≡ true → c ≡ b
   unfolding goesFirst
   first-anti c b p q =
       ⊎-elim
-      (λ (x : (latestFirst a c b ≡ true) × (latestFirst a b c ≡ true)). latest-anti c b (x .0) (x .1))
-      (λ (x : (idlestFirst a c b ≡ true) × (idlestFirst a b c ≡ true)). idlest-anti c b (x .0) (x .1))
-      (recall-anti (recallsOn a mark c) (recallsOn a mark b) (latestFirst a c b) (latestFirst a b c) (idlestFirst a c b) (idlestFirst a b c) p q)
+      (λ x. latest-anti c b (x .2) (x .3))
+      (λ x. idlest-anti c b (x .2) (x .3))
+      (recall-anti (recallsOn a mark c) (recallsOn a mark b) (latestFirst a zone c b) (latestFirst a zone b c) (idlestFirst a zone c b) (idlestFirst a zone b c) p q)
 
-  latest-refl : (c : ℕ) → latestFirst a c c ≡ true
+  latest-refl : (c : ℕ) → latestFirst a zone c c ≡ true
   unfolding latestFirst
-  latest-refl c = equal (releasedOn a c) (releasedOn a c) (tieFirst c c) refl (tie-refl c)
+  latest-refl c = equal (releasedOn a c) (releasedOn a c) (tieFirst zone c c) refl (tie-refl zone c)
 
-  idlest-refl : (c : ℕ) → idlestFirst a c c ≡ true
+  idlest-refl : (c : ℕ) → idlestFirst a zone c c ≡ true
   unfolding idlestFirst
   idlest-refl c =
-      equal (heldOn a c) (heldOn a c) _ refl (equal (releasedOn a c) (releasedOn a c) (tieFirst c c) refl (tie-refl c))
+      equal (heldOn a c) (heldOn a c) _ refl (equal (releasedOn a c) (releasedOn a c) (tieFirst zone c c) refl (tie-refl zone c))
 
-  pub first-refl : (c : ℕ) → goesFirst a mark c c ≡ true
+  pub first-refl : (c : ℕ) → goesFirst a zone mark c c ≡ true
   unfolding goesFirst
-  first-refl c = recall-refl (recallsOn a mark c) (latestFirst a c c) (idlestFirst a c c) (latest-refl c) (idlest-refl c)
+  first-refl c = recall-refl (recallsOn a mark c) (latestFirst a zone c c) (idlestFirst a zone c c) (latest-refl c) (idlest-refl c)

@@ -53,10 +53,10 @@ withNote a mark c =
 abbrev pub placedOn : MpeNoteAllocator → ℕ → ℕ → Allocation
 placedOn a mark c = answered (withNote a mark c) (Channel c)
 
--- a note of this mark on the foremost channel from `first` up to below `end`
-pub record Placed (a : MpeNoteAllocator) (mark first end : ℕ) (r : Allocation) : Type 0 where
+-- a note of this mark in a zone, on the foremost channel from `first` up to below `end`
+pub record Placed (a : MpeNoteAllocator) (zone : MpeZone) (mark first end : ℕ) (r : Allocation) : Type 0 where
   pub channel : ℕ
-  pub foremost : Foremost a mark first end channel
+  pub foremost : Foremost a zone mark first end channel
   pub is : r ≡ placedOn a mark channel
 
 -- what a note gets, and the allocator after it: an illegal layout is out of range, then a zone without members is none
@@ -70,7 +70,7 @@ unfoldable pub allocationOf : MpeNoteAllocator → MpeLayout → MpeZone → ℕ
 allocationOf a l zone note =
     if legal l then
     (if eqb (membersOf l zone) 0 then answered a NoMembers else
-    placedOn a (markOf note) (choice a (markOf note) (lowestOf l zone) (membersOf l zone - 1)))
+    placedOn a (markOf note) (choice a zone (markOf note) (lowestOf l zone) (membersOf l zone - 1)))
     else answered a OutOfRange
 
 -- the release clock steps from 4,294,967,295 to 0

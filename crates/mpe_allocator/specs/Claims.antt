@@ -1,16 +1,17 @@
--- Which channel a note got, as the two sentences of document 01, "The sending side", have it.
+-- Which channel a note got, as the two sentences of document 01, "The sending side", have it, with the tie of document 02, 2026-03.
 use mathlib.Core.Path.{_≡_}
 use mathlib.Core.Bool.{true, false}
 use mathlib.Core.Logic.{_⊎_}
 use Prim.Native.Nat.{ℕ, _+_, _<_, _≤_}
 use Rattle.mpe_layout.specs.Layout.{membersOf, lowestOf, roleOf}
 use Rattle.mpe_layout.specs.declared.MpeZone.{MpeZone}
+use Rattle.mpe_layout.specs.declared.MpeZone.the-variants.{Lower, Upper}
 use Rattle.mpe_layout.specs.declared.MpeRole.the-variants.{Member}
 use Rattle.mpe_layout.specs.declared.MpeLayout.{MpeLayout}
 use Rattle.mpe_allocator.specs.declared.MpeNoteAllocator.{MpeNoteAllocator}
 use Rattle.mpe_allocator.specs.declared.NoteReply.{NoteReply}
 use Rattle.mpe_allocator.specs.declared.NoteReply.the-variants.{Channel}
-use Rattle.mpe_allocator.specs.Choice.{heldOn, releasedOn, markOf, recallsOn, Chosen}
+use Rattle.mpe_allocator.specs.Choice.{heldOn, releasedOn, markOf, recallsOn, Foremost, Chosen}
 
 -- a fact of the channel that a note got
 abbrev pub OfChannel : NoteReply → (ℕ → Type 0) → Type 0
@@ -28,17 +29,35 @@ ChosenIsMember l zone c = roleOf l c ≡ Member zone
 abbrev pub OneChosen : MpeNoteAllocator → MpeLayout → MpeZone → ℕ → ℕ → Type 0
 OneChosen a l zone note c = (d : ℕ) → Chosen a l zone note d → c ≡ d
 
--- where a member recalls the note, the chosen one does, and no member that does was released later, or at the same clock and is lower
+-- of two that tie, Lower takes the lower channel and Upper the higher
+abbrev pub TakenOnTie : MpeZone → ℕ → ℕ → Type 0
+TakenOnTie Lower c b = c ≤ b
+TakenOnTie Upper c b = b ≤ c
+
+-- where a member recalls the note, the chosen one does, and no member that does was released later, or at the same clock and is taken on a tie
 abbrev pub RecallChosen : MpeNoteAllocator → MpeLayout → MpeZone → ℕ → ℕ → Type 0
 RecallChosen a l zone note c =
     (b : ℕ) → MemberOf l zone b → recallsOn a (markOf note) b ≡ true →
     (recallsOn a (markOf note) c ≡ true)
-    × ((releasedOn a b < releasedOn a c) ⊎ ((releasedOn a b ≡ releasedOn a c) × (c ≤ b)))
+    × ((releasedOn a b < releasedOn a c) ⊎ ((releasedOn a b ≡ releasedOn a c) × TakenOnTie zone c b))
 
--- where the chosen one does not recall the note, no member has a smaller (held count, last release, channel)
+-- where the chosen one does not recall the note, no member has a smaller (held count, last release), or the same pair and is taken on a tie
 abbrev pub LeastChosen : MpeNoteAllocator → MpeLayout → MpeZone → ℕ → ℕ → Type 0
 LeastChosen a l zone note c =
     (b : ℕ) → MemberOf l zone b → recallsOn a (markOf note) c ≡ false →
     (heldOn a c < heldOn a b)
     ⊎ ((heldOn a c ≡ heldOn a b)
-    × ((releasedOn a c < releasedOn a b) ⊎ ((releasedOn a c ≡ releasedOn a b) × (c ≤ b))))
+    × ((releasedOn a c < releasedOn a b) ⊎ ((releasedOn a c ≡ releasedOn a b) × TakenOnTie zone c b)))
+
+-- the member that the Rust takes: the lowest on a tie, in either zone (mpe.rs, `note_on`)
+abbrev pub LowestOnTie : MpeNoteAllocator → MpeLayout → MpeZone → ℕ → ℕ → Type 0
+LowestOnTie a l zone note d = Foremost a Lower (markOf note) (lowestOf l zone) (lowestOf l zone + membersOf l zone) d
+
+-- only a tie is turned round: the chosen member and the one that the Rust takes tie in both searches, and in Lower they are one
+abbrev pub OnlyTiesTurned : MpeNoteAllocator → MpeLayout → MpeZone → ℕ → ℕ → Type 0
+OnlyTiesTurned a l zone note c =
+    (d : ℕ) → LowestOnTie a l zone note d →
+    (recallsOn a (markOf note) c ≡ recallsOn a (markOf note) d)
+    × (heldOn a c ≡ heldOn a d)
+    × (releasedOn a c ≡ releasedOn a d)
+    × (zone ≡ Lower → c ≡ d)

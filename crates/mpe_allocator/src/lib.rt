@@ -1,12 +1,13 @@
 // The note allocator of an MPE sender (mpe.rs): the member channel for each new note.
 ghost use mathlib.Core.Path.{_≡_};
 ghost use mathlib.Core.Bool.{true, false};
-ghost use Prim.Native.Nat.{_+_, _<_, _≤_};
+ghost use Prim.Native.Nat.{_+_, _-_, _*_, _<_, _≤_};
 ghost use Rattle.ump.specs.Packet.{packetValue};
-ghost use Rattle.mpe_allocator.specs.Choice.{heldOn, tieFirst, smallerFirst, recalls, recallsOn, latestFirst, idlestFirst, byRecall, goesFirst, foremostOf, Foremost};
-ghost use Rattle.mpe_allocator.specs.Allocator.{emptied, noteReplyRead, oneMore, withNote, Placed, AllocatedAs, allocationOf, tick, withoutNote, withOption};
+ghost use Rattle.ump.specs.Choice.{if_then_else_};
+ghost use Rattle.mpe_allocator.specs.Choice.{heldOn, tieFirst, smallerFirst, recalls};
+ghost use Rattle.mpe_allocator.specs.Allocator.{emptied, noteReplyRead, oneMore, Placed, AllocatedAs, allocationOf, tick, withoutNote, withOption};
 ghost use Rattle.mpe_allocator.specs.Calls.{note-on, note-off, active-notes, same-note, set-same-note, reset, note-reply, count, option, nothing, CallGives, CountsSum};
-ghost use Rattle.mpe_allocator.specs.Claims.{OfChannel, ChosenIsMember, OneChosen, RecallChosen, LeastChosen};
+ghost use Rattle.mpe_allocator.specs.Claims.{OfChannel, ChosenIsMember, OneChosen, RecallChosen, LeastChosen, OnlyTiesTurned};
 use mpe_layout::LowestMember;
 use mpe_layout::Members;
 use mpe_layout::MpeLayout;
@@ -35,15 +36,18 @@ pub struct Allocation {
     pub reply: NoteReply,
 }
 
-// Of two channels that tie, the lower goes first.
-fn wins_tie(c: usize, b: usize) -> bool
-    ensures { λ r. ⌜ r ≡ tieFirst c b ⌝ }
+// Of two members that tie, the one nearer to the manager goes first: in Lower the lower, in Upper the higher.
+fn wins_tie(zone: MpeZone, c: u64, b: u64) -> bool
+    ensures { λ r. ⌜ r ≡ tieFirst zone c b ⌝ }
 {
-    c <= b
+    match zone {
+        MpeZone::Lower => c <= b,
+        MpeZone::Upper => b <= c,
+    }
 }
 
 // The smaller number goes first, and equal ones leave it to the rest.
-fn smaller_first(x: u32, y: u32, rest: bool) -> bool
+fn smaller_first(x: u64, y: u64, rest: bool) -> bool
     ensures { λ r. ⌜ r ≡ smallerFirst x y rest ⌝ }
 {
     if x == y {
@@ -65,20 +69,26 @@ fn is_recall(option: bool, held: u8, last: u8, mark: u8) -> bool
     false
 }
 
-// A channel that recalls goes before one that does not; of two that recall `latest` decides, of two others `idlest`.
-fn by_recall(c: bool, b: bool, latest: bool, idlest: bool) -> bool
-    ensures { λ r. ⌜ r ≡ byRecall c b latest idlest ⌝ }
+// The rank of a member for a note: the smaller goes first. Those that recall the note have the ranks below 4,294,967,296, the later their release the
+// smaller; the others follow, by their held notes and then by their last release.
+fn rank(recall: bool, held: u8, released: u32) -> u64
+    ensures is { λ r. ⌜ r ≡ (if recall then 4294967295 - released else 4294967296 * (held + 1) + released) ⌝ }
+    ensures within { λ r. ⌜ (released < 4294967296) × (r < 18446744073709551615) ⌝ }
 {
-    if c {
-        if b {
-            return latest;
-        }
-        return true;
+    if recall {
+        return (4294967295 - released) as u64;
     }
-    if b {
-        return false;
+    4294967296 * (held as u64 + 1) + released as u64
+}
+
+// The first of two numbers where the test holds, else the second.
+fn pick(test: bool, x: u64, y: u64) -> u64
+    ensures { λ r. ⌜ r ≡ (if test then x else y) ⌝ }
+{
+    if test {
+        return x;
     }
-    idlest
+    y
 }
 
 // One more, and no more than 255.
@@ -107,91 +117,31 @@ impl MpeNoteAllocator {
         emptied(false)
     }
 
-    fn recalls_on(self, mark: u8, c: usize) -> bool
-        requires { ⌜ c < 16 ⌝ }
-        ensures { λ r. ⌜ r ≡ recallsOn self mark c ⌝ }
-    {
-        is_recall(self.same_note, self.active[c], self.last_note[c], mark)
-    }
-
-    // The latest release goes first.
-    fn latest_first(self, c: usize, b: usize) -> bool
-        requires { ⌜ (c < 16) × (b < 16) ⌝ }
-        ensures { λ r. ⌜ r ≡ latestFirst self c b ⌝ }
-    {
-        smaller_first(self.last_off[b], self.last_off[c], wins_tie(c, b))
-    }
-
-    // The smallest pair of held notes and last release goes first.
-    fn idlest_first(self, c: usize, b: usize) -> bool
-        requires { ⌜ (c < 16) × (b < 16) ⌝ }
-        ensures { λ r. ⌜ r ≡ idlestFirst self c b ⌝ }
-    {
-        let oldest = smaller_first(self.last_off[c], self.last_off[b], wins_tie(c, b));
-        smaller_first(self.active[c] as u32, self.active[b] as u32, oldest)
-    }
-
-    // Channel c goes before channel b, for a note of this mark.
-    fn goes_first(self, mark: u8, c: usize, b: usize) -> bool
-        requires { ⌜ (c < 16) × (b < 16) ⌝ }
-        ensures { λ r. ⌜ r ≡ goesFirst self mark c b ⌝ }
-    {
-        by_recall(
-            self.recalls_on(mark, c),
-            self.recalls_on(mark, b),
-            self.latest_first(c, b),
-            self.idlest_first(c, b),
-        )
-    }
-
-    // The one of two channels that goes first.
-    fn foremost_of(self, mark: u8, b: usize, c: usize) -> usize
-        requires { ⌜ (b < 16) × (c < 16) ⌝ }
-        ensures { λ r. ⌜ r ≡ foremostOf self mark b c ⌝ }
-    {
-        if self.goes_first(mark, b, c) {
-            return b;
-        }
-        c
-    }
-
-    // The foremost channel from `first` up to below `end`.
-    fn foremost(self, mark: u8, first: usize, end: usize) -> usize
+    // A note of this mark in a zone, on the foremost channel from `first` up to below `end`.
+    fn place(self, zone: MpeZone, mark: u8, first: usize, end: usize) -> Allocation
         requires { ⌜ (first < end) × (end ≤ 16) ⌝ }
-        ensures { λ r. ⌜ Foremost self mark first end r ⌝ }
+        ensures { λ r. ⌜ Placed self zone mark first end r ⌝ }
     {
-        let mut best = first;
-        let mut c = first + 1;
+        let mut best = first as u64;
+        let mut least: u64 = 18446744073709551615;
+        let mut c = first;
         while c < end {
-            best = self.foremost_of(mark, best, c);
+            let held = self.active[c];
+            let recall = is_recall(self.same_note, held, self.last_note[c], mark);
+            let next = rank(recall, held, self.last_off[c]);
+            let goes_first = smaller_first(next, least, wins_tie(zone, c as u64, best));
+            best = pick(goes_first, c as u64, best);
+            least = pick(goes_first, next, least);
             c += 1;
         }
-        best
-    }
-
-    // The allocator with a note of this mark on channel c.
-    fn with_note(self, mark: u8, c: usize) -> MpeNoteAllocator
-        requires { ⌜ c < 16 ⌝ }
-        ensures { λ r. ⌜ r ≡ withNote self mark c ⌝ }
-    {
-        let held = one_more(self.active[c]);
+        let channel = best as usize;
+        let more = one_more(self.active[channel]);
         let mut a = self;
-        a.active[c] = held;
-        a.last_note[c] = mark;
-        a
-    }
-
-    // A note of this mark on the foremost channel from `first` up to below `end`.
-    fn place(self, mark: u8, first: usize, end: usize) -> Allocation
-        requires { ⌜ (first < end) × (end ≤ 16) ⌝ }
-        ensures { λ r. ⌜ Placed self mark first end r ⌝ }
-    {
-        let c = self.foremost(mark, first, end);
-        let a = self.with_note(mark, c);
-        let channel = c as u8;
+        a.active[channel] = more;
+        a.last_note[channel] = mark;
         Allocation {
             allocator: a,
-            reply: NoteReply::Channel(channel),
+            reply: NoteReply::Channel(best as u8),
         }
     }
 
@@ -204,6 +154,7 @@ impl MpeNoteAllocator {
         ensures one { λ r. ⌜ OfChannel (r .reply) (OneChosen self layout zone note) ⌝ }
         ensures recall { λ r. ⌜ OfChannel (r .reply) (RecallChosen self layout zone note) ⌝ }
         ensures least { λ r. ⌜ OfChannel (r .reply) (LeastChosen self layout zone note) ⌝ }
+        ensures turned { λ r. ⌜ OfChannel (r .reply) (OnlyTiesTurned self layout zone note) ⌝ }
     {
         match layout.lowest_member(zone) {
             LowestMember::OutOfRange => Allocation {
@@ -221,7 +172,7 @@ impl MpeNoteAllocator {
                 },
                 Members::Count(n) => {
                     let end = first as usize + n as usize;
-                    self.place(0x80 + note % 128, first as usize, end)
+                    self.place(zone, 0x80 + note % 128, first as usize, end)
                 }
             },
         }

@@ -214,6 +214,6 @@ mod tests {
             let expected = by_mirror(upstream, layout, note);
             assert_eq!((channel, turned.upstream), expected, "{upstream:?}");
         }
-        assert!(ties > 100_000 && same_note_ties > 20_000);
+        assert!(ties > 100_000 && same_note_ties > 15_000);
     }
 }
