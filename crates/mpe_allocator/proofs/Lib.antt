@@ -5,3 +5,4 @@ pub mod Ranks
 pub mod Read
 pub mod Noted
 pub mod Counts
+pub mod Filled

@@ -30,7 +30,7 @@ pub less : (x y : ℕ) (t : Bool) → x < y → smallerFirst x y t ≡ true
 unfolding smallerFirst
 less x y t h = rw (ne-eqb x y (λ e. omega arith), lt-ltb x y h)
 
-equal : (x y : ℕ) (t : Bool) → x ≡ y → t ≡ true → smallerFirst x y t ≡ true
+pub equal : (x y : ℕ) (t : Bool) → x ≡ y → t ≡ true → smallerFirst x y t ≡ true
 unfolding smallerFirst
 equal x y t e h = rw (eq-eqb x y e) h
 
@@ -125,13 +125,13 @@ module _ (a : MpeNoteAllocator) (zone : MpeZone) (mark : ℕ) where
   latest-trans : (c b d : ℕ) → latestFirst a zone c b ≡ true → latestFirst a zone b d ≡ true → latestFirst a zone c d ≡ true
   unfolding latestFirst
   latest-trans c b d p q =
-      smaller-trans (releasedOn a d) (releasedOn a b) (releasedOn a c) (tieFirst zone b d) (tieFirst zone c b) (tieFirst zone c d) (λ x y. tie-trans zone c b d y x) q p
+      smaller-trans (releasedOn a d) (releasedOn a b) (releasedOn a c) _ _ _ (λ x y. tie-trans _ c b d y x) q p
 
   idlest-trans : (c b d : ℕ) → idlestFirst a zone c b ≡ true → idlestFirst a zone b d ≡ true → idlestFirst a zone c d ≡ true
   unfolding idlestFirst
   idlest-trans c b d =
       smaller-trans (heldOn a c) (heldOn a b) (heldOn a d) _ _ _
-      (smaller-trans (releasedOn a c) (releasedOn a b) (releasedOn a d) (tieFirst zone c b) (tieFirst zone b d) (tieFirst zone c d) (tie-trans zone c b d))
+      (smaller-trans (releasedOn a c) (releasedOn a b) (releasedOn a d) _ _ _ (tie-trans _ c b d))
 
   pub first-trans : (c b d : ℕ) → goesFirst a zone mark c b ≡ true → goesFirst a zone mark b d ≡ true → goesFirst a zone mark c d ≡ true
   unfolding goesFirst
@@ -141,13 +141,13 @@ module _ (a : MpeNoteAllocator) (zone : MpeZone) (mark : ℕ) where
 
   latest-total : (c b : ℕ) → latestFirst a zone c b ≡ false → latestFirst a zone b c ≡ true
   unfolding latestFirst
-  latest-total c b = smaller-total (releasedOn a b) (releasedOn a c) (tieFirst zone c b) (tieFirst zone b c) (tie-total zone c b)
+  latest-total c b = smaller-total (releasedOn a b) (releasedOn a c) _ _ (tie-total _ c b)
 
   idlest-total : (c b : ℕ) → idlestFirst a zone c b ≡ false → idlestFirst a zone b c ≡ true
   unfolding idlestFirst
   idlest-total c b =
       smaller-total (heldOn a c) (heldOn a b) _ _
-      (smaller-total (releasedOn a c) (releasedOn a b) (tieFirst zone c b) (tieFirst zone b c) (tie-total zone c b))
+      (smaller-total (releasedOn a c) (releasedOn a b) _ _ (tie-total _ c b))
 
   pub first-total : (c b : ℕ) → goesFirst a zone mark c b ≡ false → goesFirst a zone mark b c ≡ true
   unfolding goesFirst
@@ -158,15 +158,15 @@ module _ (a : MpeNoteAllocator) (zone : MpeZone) (mark : ℕ) where
   latest-anti : (c b : ℕ) → latestFirst a zone c b ≡ true → latestFirst a zone b c ≡ true → c ≡ b
   unfolding latestFirst
   latest-anti c b p q =
-      let t = smaller-anti (releasedOn a b) (releasedOn a c) (tieFirst zone c b) (tieFirst zone b c) p q in
-      tie-anti zone c b (t .1) (t .2)
+      let t = smaller-anti (releasedOn a b) (releasedOn a c) _ _ p q in
+      tie-anti _ c b (t .1) (t .2)
 
   idlest-anti : (c b : ℕ) → idlestFirst a zone c b ≡ true → idlestFirst a zone b c ≡ true → c ≡ b
   unfolding idlestFirst
   idlest-anti c b p q =
       let s = smaller-anti (heldOn a c) (heldOn a b) _ _ p q in
-      let t = smaller-anti (releasedOn a c) (releasedOn a b) (tieFirst zone c b) (tieFirst zone b c) (s .1) (s .2) in
-      tie-anti zone c b (t .1) (t .2)
+      let t = smaller-anti (releasedOn a c) (releasedOn a b) _ _ (s .1) (s .2) in
+      tie-anti _ c b (t .1) (t .2)
 
   pub first-anti : (c b : ℕ) → goesFirst a zone mark c b ≡ true → goesFirst a zone mark b c ≡ true → c ≡ b
   unfolding goesFirst
@@ -178,12 +178,12 @@ module _ (a : MpeNoteAllocator) (zone : MpeZone) (mark : ℕ) where
 
   latest-refl : (c : ℕ) → latestFirst a zone c c ≡ true
   unfolding latestFirst
-  latest-refl c = equal (releasedOn a c) (releasedOn a c) (tieFirst zone c c) refl (tie-refl zone c)
+  latest-refl c = equal (releasedOn a c) (releasedOn a c) _ refl (tie-refl _ c)
 
   idlest-refl : (c : ℕ) → idlestFirst a zone c c ≡ true
   unfolding idlestFirst
   idlest-refl c =
-      equal (heldOn a c) (heldOn a c) _ refl (equal (releasedOn a c) (releasedOn a c) (tieFirst zone c c) refl (tie-refl zone c))
+      equal (heldOn a c) (heldOn a c) _ refl (equal (releasedOn a c) (releasedOn a c) _ refl (tie-refl _ c))
 
   pub first-refl : (c : ℕ) → goesFirst a zone mark c c ≡ true
   unfolding goesFirst

@@ -3,3 +3,4 @@ pub mod Choice
 pub mod Claims
 pub mod Allocator
 pub mod Calls
+pub mod Filling

@@ -7,6 +7,7 @@ ghost use Rattle.ump.specs.Choice.{if_then_else_};
 ghost use Rattle.mpe_allocator.specs.Choice.{heldOn, tieFirst, smallerFirst, recalls};
 ghost use Rattle.mpe_allocator.specs.Allocator.{emptied, noteReplyRead, oneMore, Placed, AllocatedAs, allocationOf, tick, withoutNote, withOption};
 ghost use Rattle.mpe_allocator.specs.Calls.{note-on, note-off, active-notes, same-note, set-same-note, reset, note-reply, count, option, nothing, CallGives, CountsSum};
+ghost use Rattle.mpe_allocator.specs.Filling.{FillsFromManager};
 ghost use Rattle.mpe_allocator.specs.Claims.{OfChannel, ChosenIsMember, OneChosen, RecallChosen, LeastChosen, OnlyTiesTurned};
 use mpe_layout::LowestMember;
 use mpe_layout::Members;
@@ -113,6 +114,7 @@ impl MpeNoteAllocator {
     pub fn new() -> MpeNoteAllocator
         ensures is { λ r. ⌜ r ≡ emptied false ⌝ }
         ensures counts { λ r. ⌜ CountsSum r ⌝ }
+        ensures fills { λ r. ⌜ FillsFromManager r ⌝ }
     {
         emptied(false)
     }
@@ -134,14 +136,15 @@ impl MpeNoteAllocator {
             least = pick(goes_first, next, least);
             c += 1;
         }
-        let channel = best as usize;
-        let more = one_more(self.active[channel]);
+        let chosen = best as usize;
+        let more = one_more(self.active[chosen]);
         let mut a = self;
-        a.active[channel] = more;
-        a.last_note[channel] = mark;
+        a.active[chosen] = more;
+        a.last_note[chosen] = mark;
+        let channel = best as u8;
         Allocation {
             allocator: a,
-            reply: NoteReply::Channel(best as u8),
+            reply: NoteReply::Channel(channel),
         }
     }
 
@@ -227,6 +230,7 @@ impl MpeNoteAllocator {
     pub fn reset(self) -> MpeNoteAllocator
         ensures is { λ r. ⌜ r ≡ emptied (self .«same_note») ⌝ }
         ensures listed { λ r. ⌜ CallGives self reset nothing r ⌝ }
+        ensures fills { λ r. ⌜ FillsFromManager r ⌝ }
     {
         emptied(self.same_note)
     }

@@ -1,10 +1,13 @@
--- `mpe_allocator::MpeNoteAllocator::new` meets its contract: it is `emptied`, and of that the counts sum.
+-- `mpe_allocator::MpeNoteAllocator::new` meets its contract: it is `emptied`, whose counts sum and whose zones fill from their managers.
 -- Assumes nothing.
 use borrow.Author.Needs.{needs}
+use mathlib.Core.Bool.{false}
 use mathlib.Core.Path.{subst, sym}
 use Rattle.mpe_allocator.specs.declared.MpeNoteAllocator.{MpeNoteAllocator}
 use Rattle.mpe_allocator.specs.Calls.{CountsSum}
+use Rattle.mpe_allocator.specs.Filling.{FillsFromManager}
 use Rattle.mpe_allocator.proofs.Counts.{counts-sum}
+use Rattle.mpe_allocator.proofs.Filled.{fills}
 use Rattle.mpe_allocator.proofs.MpeNoteAllocator.new.Statement.{statement}
 use Rattle.mpe_allocator.proofs.MpeNoteAllocator.new.Tie as tie
 
@@ -13,7 +16,8 @@ emptied-requires c κs = search needs
 
 returns : tie.Need-returns
 returns c =
-    (c .emptied .ensures, subst (λ (a : MpeNoteAllocator). CountsSum a) (sym (c .emptied .ensures)) counts-sum)
+    let e = sym (c .emptied .ensures) in
+    (c .emptied .ensures, (subst (λ (a : MpeNoteAllocator). CountsSum a) e counts-sum, subst (λ (a : MpeNoteAllocator). FillsFromManager a) e (fills false)))
 
 pub new-spec : {M : Type 1} → statement M
 new-spec = tie.close (tie.spec emptied-requires returns)

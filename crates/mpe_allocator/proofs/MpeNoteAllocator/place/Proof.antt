@@ -87,8 +87,8 @@ element-write-a c = omega (arith, foremost (c .before .before .before) (omega ar
 element-write-a-2 : tie.Need-element-write-a-2 Inv-loop μ-loop
 element-write-a-2 c = omega (arith, foremost (c .before .before .before) (omega arith) .below)
 
-cast-t30 : tie.Need-cast-t30 Inv-loop μ-loop
-cast-t30 c = omega (arith, foremost (c .before .before .before) (omega arith) .below)
+cast-channel : tie.Need-cast-channel Inv-loop μ-loop
+cast-channel c = omega (arith, foremost (c .before .before .before) (omega arith) .below)
 
 returns : tie.Need-returns Inv-loop μ-loop
 unfolding withNote
@@ -123,5 +123,5 @@ place-spec =
     one-more-requires
     element-write-a
     element-write-a-2
-    cast-t30
+    cast-channel
     returns)
