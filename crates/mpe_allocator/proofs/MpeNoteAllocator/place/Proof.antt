@@ -96,7 +96,7 @@ returns c =
     record {
       channel = c .before .before .before .loop .best;
       foremost = foremost (c .before .before .before) (omega arith);
-      is = rw (c .one-more .ensures);
+      is = let more = c .one-more .ensures in cc;
     }
 
 pub place-spec : {M : Type 1} → statement M
