@@ -114,7 +114,7 @@ fn measure_all(all: &[streams::Stream]) {
         name: "allocator calls".into(),
         calls: notes.len(),
         ours: Box::new(|| ours::notes(&notes)),
-        rust: Box::new(|| rust::notes(&notes)),
+        rust: Box::new(|| rust::rust_notes(&notes)),
     });
     pairs.push(Pair {
         name: "restatements written".into(),
@@ -181,8 +181,18 @@ fn once_translated(side: &str) -> u64 {
     }
 }
 
+/// The same for the notes of the allocator.
+fn once_noted(side: &str) -> u64 {
+    let notes = streams::notes();
+    match side {
+        "value" => ours::notes(&notes),
+        "rust" => rust::rust_notes(&notes),
+        _ => usage(),
+    }
+}
+
 fn usage() -> ! {
-    eprintln!("benchmarks | benchmarks once lent|value|rust STREAM | benchmarks once SIDE worst N [before] | benchmarks once value|rust messages");
+    eprintln!("benchmarks | benchmarks once lent|value|rust STREAM | benchmarks once SIDE worst N [before] | benchmarks once value|rust messages|notes");
     process::exit(2)
 }
 
@@ -221,6 +231,9 @@ fn main() {
         }
         ["once", side, "messages"] => {
             black_box(once_translated(side));
+        }
+        ["once", side, "notes"] => {
+            black_box(once_noted(side));
         }
         ["once", side, what @ ..] => {
             black_box(once(side, &named(what)));

@@ -91,8 +91,9 @@ pub fn offsets(bytes: &[u8], channels: &[u8]) -> u64 {
 }
 
 /// A byte below 80 starts a note in a zone of fifteen members, any other ends one.
+#[no_mangle]
 #[inline(never)]
-pub fn notes(notes: &[u8]) -> u64 {
+pub fn rust_notes(notes: &[u8]) -> u64 {
     let mut allocator = MpeNoteAllocator::new();
     let layout = MpeLayout::new(15, 0).expect("it is legal");
     let mut sum = 0u64;

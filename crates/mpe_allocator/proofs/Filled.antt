@@ -2,11 +2,10 @@
 -- Assumes nothing.
 use mathlib.Core.Path.{_≡_, refl, sym, ap, subst, _∙_}
 use mathlib.Core.Bool.{Bool, true, false}
-use mathlib.Core.Logic.{_⊎_, inl, inr, ⊎-elim}
 use mathlib.Core.List.{List, [], _∷_}
 use Prim.Native.Nat.{ℕ, zero, suc, _+_, _-_, _<_, _≤_}
 use native.Mathlib.Omega.{arith}
-use borrow.Author.Tests.{ltb-true, ltb-false, le-leb, eq-eqb, ne-eqb}
+use borrow.Author.Tests.{ltb-true, ltb-false, le-leb, ne-eqb}
 use lib.Dec.{ltb, eqb}
 use lib.ListN.{length, getD, set, replicate, length-set, getD-replicate}
 use lib.Seq.{getD-set-same, getD-set-other}
@@ -19,9 +18,9 @@ use Rattle.mpe_layout.specs.declared.MpeLayout.{MpeLayout}
 use Rattle.mpe_layout.proofs.Legal.{members-le}
 use Rattle.mpe_allocator.specs.declared.MpeNoteAllocator.{MpeNoteAllocator}
 use Rattle.mpe_allocator.specs.declared.Allocation.{Allocation}
-use Rattle.mpe_allocator.specs.Choice.{heldOn, lastOn, releasedOn, markOf, recalls, tieFirst, smallerFirst, byRecall, idlestFirst, goesFirst, Chosen}
+use Rattle.mpe_allocator.specs.Choice.{heldOn, lastOn, releasedOn, markOf, recalls, tieFirst, byRecall, idlestFirst, goesFirst, Chosen}
 use Rattle.mpe_allocator.specs.Allocator.{emptied, oneMore, withNote, placedOn, allocationOf}
-use Rattle.mpe_allocator.specs.Calls.{note-on, note-reply, afterCalls}
+use Rattle.mpe_allocator.specs.Calls.{note-reply, afterCalls}
 use Rattle.mpe_allocator.specs.Filling.{fromManager, noteOns, FillsFromManager}
 use Rattle.mpe_allocator.proofs.Order.{less, equal}
 use Rattle.mpe_allocator.proofs.Noted.{in-zone}

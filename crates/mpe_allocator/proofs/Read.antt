@@ -3,7 +3,7 @@
 use mathlib.Core.Path.{_≡_, refl, sym, subst, _∙_}
 use mathlib.Core.Bool.{Bool, true, false}
 use mathlib.Core.Logic.{_⊎_, inl, inr, ⊎-elim}
-use Prim.Native.Nat.{ℕ, _+_, _-_, _<_, _≤_}
+use Prim.Native.Nat.{ℕ, _+_, _-_, _<_}
 use native.Mathlib.Omega.{arith}
 use lib.Dec.{eqb}
 use borrow.Author.Tests.{leb-true, eqb-true}
@@ -15,7 +15,7 @@ use Rattle.mpe_layout.specs.declared.MpeLayout.{MpeLayout}
 use Rattle.mpe_layout.proofs.Roles.{member-role}
 use Rattle.mpe_allocator.specs.declared.MpeNoteAllocator.{MpeNoteAllocator}
 use Rattle.mpe_allocator.specs.Choice.{heldOn, lastOn, releasedOn, markOf, recalls, recallsOn, Foremost, Chosen, tieFirst, smallerFirst, latestFirst, idlestFirst, byRecall, goesFirst}
-use Rattle.mpe_allocator.specs.Claims.{ChosenIsMember, OneChosen, TakenOnTie, RecallChosen, LeastChosen, LowestOnTie, OnlyTiesTurned}
+use Rattle.mpe_allocator.specs.Claims.{ChosenIsMember, OneChosen, TakenOnTie, RecallChosen, LeastChosen, OnlyTiesTurned}
 use Rattle.mpe_allocator.proofs.Order.{never, view, smaller-anti, recall-anti}
 use Rattle.mpe_allocator.proofs.Search.{only-one}
 

@@ -1,6 +1,6 @@
 // The note allocator of an MPE sender (mpe.rs): the member channel for each new note.
 ghost use mathlib.Core.Path.{_≡_};
-ghost use mathlib.Core.Bool.{true, false};
+ghost use mathlib.Core.Bool.{false};
 ghost use Prim.Native.Nat.{_+_, _-_, _*_, _<_, _≤_};
 ghost use Rattle.ump.specs.Packet.{packetValue};
 ghost use Rattle.ump.specs.Choice.{if_then_else_};

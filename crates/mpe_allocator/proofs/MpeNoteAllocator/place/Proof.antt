@@ -3,8 +3,7 @@
 use Prim.Native.Nat.{_≤_, _-_}
 use mathlib.Core.Path.{_≡_, refl}
 use native.Mathlib.Omega.{arith}
-use borrow.Author.Needs.{needs}
-use mathlib.Core.Logic.{inl, inr}
+use mathlib.Core.Logic.{inl}
 use Rattle.ump.proofs.Auto.{auto}
 use Rattle.mpe_allocator.specs.Choice.{Foremost}
 use Rattle.mpe_allocator.specs.Allocator.{withNote}
