@@ -6,3 +6,4 @@ pub mod Read
 pub mod Noted
 pub mod Counts
 pub mod Filled
+pub mod Examples

@@ -4,3 +4,4 @@ pub mod Claims
 pub mod Allocator
 pub mod Calls
 pub mod Filling
+pub mod Examples

@@ -7,6 +7,7 @@ ghost use Rattle.ump.specs.Choice.{if_then_else_};
 ghost use Rattle.mpe_allocator.specs.Choice.{heldOn, tieFirst, smallerFirst, recalls};
 ghost use Rattle.mpe_allocator.specs.Allocator.{emptied, noteReplyRead, oneMore, Placed, AllocatedAs, allocationOf, tick, withoutNote, withOption};
 ghost use Rattle.mpe_allocator.specs.Calls.{note-on, note-off, active-notes, same-note, set-same-note, reset, note-reply, count, option, nothing, CallGives, CountsSum};
+ghost use Rattle.mpe_allocator.specs.Examples.{AllocatesAsTabled};
 ghost use Rattle.mpe_allocator.specs.Filling.{FillsFromManager};
 ghost use Rattle.mpe_allocator.specs.Claims.{OfChannel, ChosenIsMember, OneChosen, RecallChosen, LeastChosen, OnlyTiesTurned};
 use mpe_layout::LowestMember;
@@ -115,6 +116,7 @@ impl MpeNoteAllocator {
         ensures is { λ r. ⌜ r ≡ emptied false ⌝ }
         ensures counts { λ r. ⌜ CountsSum r ⌝ }
         ensures fills { λ r. ⌜ FillsFromManager r ⌝ }
+        ensures table { λ r. ⌜ AllocatesAsTabled ⌝ }
     {
         emptied(false)
     }
