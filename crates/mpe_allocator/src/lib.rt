@@ -126,6 +126,7 @@ impl MpeNoteAllocator {
         requires { ⌜ (first < end) × (end ≤ 16) ⌝ }
         ensures { λ r. ⌜ Placed self zone mark first end r ⌝ }
     {
+        // The best channel so far and its rank; no rank is as large as the number that the search begins with.
         let mut best = first as u64;
         let mut least: u64 = 18446744073709551615;
         let mut c = first;
