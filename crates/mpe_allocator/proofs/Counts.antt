@@ -1,4 +1,4 @@
--- The counts sum to the note-ons that got a channel less the note-offs that oneIfHeld a count above 0, by induction on the calls.
+-- The counts sum to the note-ons that got a channel less the note-offs that met a count above 0, by induction on the calls.
 -- Assumes nothing.
 use mathlib.Core.Path.{_≡_, refl, _∙_}
 use mathlib.Core.Bool.{Bool, true, false, _||_}

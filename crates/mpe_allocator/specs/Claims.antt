@@ -53,7 +53,7 @@ LeastChosen a l zone note c =
 abbrev pub LowestOnTie : MpeNoteAllocator → MpeLayout → MpeZone → ℕ → ℕ → Type 0
 LowestOnTie a l zone note d = Foremost a Lower (markOf note) (lowestOf l zone) (lowestOf l zone + membersOf l zone) d
 
--- only a tie is turned round: the chosen member and the one that the Rust takes tie in both searches, and in Lower they are one
+-- only a tie is turned round: the chosen member and the one that the Rust takes are alike in all that the searches compare, and in Lower they are one
 abbrev pub OnlyTiesTurned : MpeNoteAllocator → MpeLayout → MpeZone → ℕ → ℕ → Type 0
 OnlyTiesTurned a l zone note c =
     (d : ℕ) → LowestOnTie a l zone note d →

@@ -1,4 +1,4 @@
--- Calls on an allocator and the answers to them, as one table: the examples of document 02, 2026-03, and one for each rule of document 01, "The sending side".
+-- Calls on an allocator and the answers to them, as one table: the examples of document 02, 2026-03, and the rules of document 01, "The sending side".
 use mathlib.Core.Path.{_≡_}
 use mathlib.Core.Bool.{true, false}
 use mathlib.Core.List.{List, [], _∷_, map}
@@ -24,7 +24,7 @@ pub record AllocatorExample : Type 0 where
 abbrev example : MpeNoteAllocator → List AllocatorCall → List AllocatorAnswer → AllocatorExample
 example a calls answers = record { from = a; calls = calls; answers = answers }
 
--- a note in a zone of two members or of three
+-- a note in a zone of two members, of three or of eight
 abbrev upper2 : ℕ → AllocatorCall
 upper2 note = note-on (layoutOf 0 2) Upper note
 
@@ -36,6 +36,9 @@ upper3 note = note-on (layoutOf 0 3) Upper note
 
 abbrev lower3 : ℕ → AllocatorCall
 lower3 note = note-on (layoutOf 3 0) Lower note
+
+abbrev upper8 : ℕ → AllocatorCall
+upper8 note = note-on (layoutOf 0 8) Upper note
 
 abbrev on : ℕ → AllocatorAnswer
 on channel = note-reply (Channel channel)
@@ -51,7 +54,7 @@ released-together =
       «same_note» = true;
     }
 
--- an empty allocator with this clock, and this count on channel 1
+-- this clock, this count on channel 1, and nothing else
 abbrev at-clock : ℕ → ℕ → MpeNoteAllocator
 at-clock clock held =
     record {
@@ -79,8 +82,16 @@ allocatorTable =
     ∷ example (emptied true) (upper2 60 ∷ upper2 60 ∷ note-off 14 ∷ note-off 13 ∷ upper2 60 ∷ []) (on 14 ∷ on 13 ∷ nothing ∷ nothing ∷ on 13 ∷ [])
     -- a channel that holds the note is not free
     ∷ example (emptied true) (lower2 60 ∷ lower2 60 ∷ []) (on 1 ∷ on 2 ∷ [])
-    -- a tie among the free channels of the note
-    ∷ example released-together (upper2 60 ∷ lower2 60 ∷ []) (on 14 ∷ on 1 ∷ [])
+    -- a tie among the free channels of the note; by counts and releases it would be 12 and 3
+    ∷ example released-together (upper3 60 ∷ lower3 60 ∷ []) (on 14 ∷ on 1 ∷ [])
+    -- a note is told from every other, and is taken modulo 128
+    ∷ example (emptied true)
+    (upper8 60 ∷ upper8 61 ∷ upper8 62 ∷ upper8 56 ∷ upper8 52 ∷ upper8 44 ∷ upper8 28 ∷ upper8 124 ∷ note-off 14 ∷ note-off 13 ∷ note-off 12 ∷ note-off 11 ∷ note-off 10 ∷ note-off 9 ∷ note-off 8 ∷ note-off 7 ∷ upper8 60 ∷ upper8 252 ∷ [])
+    (on 14 ∷ on 13 ∷ on 12 ∷ on 11 ∷ on 10 ∷ on 9 ∷ on 8 ∷ on 7 ∷ nothing ∷ nothing ∷ nothing ∷ nothing ∷ nothing ∷ nothing ∷ nothing ∷ nothing ∷ on 14 ∷ on 7 ∷ [])
+    -- a release counts where another note is still held
+    ∷ example (emptied false)
+    (upper2 60 ∷ upper2 60 ∷ upper2 60 ∷ upper2 60 ∷ note-off 13 ∷ note-off 14 ∷ upper2 60 ∷ [])
+    (on 14 ∷ on 13 ∷ on 14 ∷ on 13 ∷ nothing ∷ nothing ∷ on 13 ∷ [])
     -- the release after 4,294,967,295 is 0
     ∷ example (at-clock 4294967294 0) (lower2 60 ∷ lower2 61 ∷ note-off 1 ∷ note-off 2 ∷ lower2 62 ∷ []) (on 1 ∷ on 2 ∷ nothing ∷ nothing ∷ on 2 ∷ [])
     -- a count stops at 255; a note-off without a note changes nothing

@@ -1,5 +1,5 @@
-//! The table of the allocator's ties: every state that calls may give to the members of a small
-//! zone, and two notes.
+//! The table of the allocator's ties: the members of a small zone with each of a few counts, last
+//! notes and releases, and two notes.
 
 use crate::allocator::set_release;
 use crate::items::Items;
@@ -93,7 +93,7 @@ impl Played {
     }
 }
 
-/// Items 60 to 68: zones of one to three members, Lower and Upper, alone and beside another zone;
+/// Items 60 to 65 and 68: zones of one to three members, Lower and Upper, alone and beside another zone;
 /// each last note, held or free, and release of each member; same-note off and on.
 pub fn table(items: &mut Items) {
     for count in 1..=3 {

@@ -1,4 +1,4 @@
-//! The allocator of items 60 to 68: upstream's `MpeNoteAllocator`, with the ties of document 02,
+//! The allocator of items 60 to 65, 67 and 68: upstream's `MpeNoteAllocator`, with the ties of document 02,
 //! 2026-03, turned round in an Upper zone.
 //!
 //! Every call but `note_on` in an Upper zone is upstream's own on its own value, and that value
@@ -117,23 +117,7 @@ impl Allocator {
 #[cfg(test)]
 mod tests {
     use super::*;
-
-    /// Numbers by chance, each below its limit: the generator splitmix64.
-    struct Chance(u64);
-
-    impl Chance {
-        fn below(&mut self, limit: u32) -> u32 {
-            self.0 = self.0.wrapping_add(0x9E37_79B9_7F4A_7C15);
-            let mut z = self.0;
-            z = (z ^ (z >> 30)).wrapping_mul(0xBF58_476D_1CE4_E5B9);
-            z = (z ^ (z >> 27)).wrapping_mul(0x94D0_49BB_1331_11EB);
-            (z ^ (z >> 31)) as u32 % limit
-        }
-
-        fn one_of<T: Copy>(&mut self, choices: &[T]) -> T {
-            choices[self.below(choices.len() as u32) as usize]
-        }
-    }
+    use crate::chance::Chance;
 
     /// An allocator with few different numbers in its fields, so that members often tie.
     fn allocator(chance: &mut Chance) -> MpeNoteAllocator {

@@ -48,8 +48,14 @@ impl Field {
             .chain([Self::Clock, Self::SameNote])
     }
 
-    /// Its place among all.
+    /// Its place among all. A channel past the last is no field.
     fn index(self) -> usize {
+        if let Self::Active(channel) | Self::LastNote(channel) | Self::LastOff(channel) = self {
+            assert!(
+                usize::from(channel) < CHANNELS,
+                "there is no channel {channel}"
+            );
+        }
         match self {
             Self::Active(channel) => usize::from(channel),
             Self::LastNote(channel) => CHANNELS + usize::from(channel),
@@ -167,13 +173,9 @@ pub fn set(allocator: &mut MpeNoteAllocator, field: Field, number: u32) {
 #[cfg(test)]
 mod tests {
     use super::*;
+    use crate::chance::mixed;
     use zmidi_io::mpe::{MpeLayout, MpeZone};
     use zmidi_ump::Channel;
-
-    /// Numbers that look random.
-    fn mixed(n: usize) -> u32 {
-        ((n as u64 + 1).wrapping_mul(0x9E37_79B9_7F4A_7C15) >> 32) as u32
-    }
 
     #[test]
     fn the_fields_stand_in_the_order_of_their_indices() {
@@ -192,7 +194,7 @@ mod tests {
                 let number = match round {
                     0 => field.highest(),
                     1 => 0,
-                    _ => mixed(round * FIELDS + index) & field.highest(),
+                    _ => (mixed(round * FIELDS + index) >> 32) as u32 & field.highest(),
                 };
                 set(&mut allocator, field, number);
                 expected[index] = number;

@@ -5,6 +5,8 @@ mod allocator;
 mod allocator_fields;
 mod answer;
 mod arguments;
+#[cfg(test)]
+mod chance;
 mod debug_text;
 mod end;
 mod items;

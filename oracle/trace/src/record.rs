@@ -139,9 +139,11 @@ mod tests {
     use zmidi_ump::ump::Ump;
     use zmidi_ump::Midi1ChannelVoiceMessage;
 
+    use crate::chance::mixed;
+
     /// Numbers that look random.
-    fn mixed(n: usize) -> u8 {
-        ((n as u64 + 1).wrapping_mul(0x9E37_79B9_7F4A_7C15) >> 56) as u8
+    fn byte(n: usize) -> u8 {
+        (mixed(n) >> 56) as u8
     }
 
     fn everywhere() -> impl Iterator<Item = (Channel, u8)> {
@@ -155,7 +157,7 @@ mod tests {
         for round in 0..4 {
             for (channel, field) in everywhere() {
                 let index = usize::from(channel.index());
-                let value = mixed(round * SIZE + index * FIELDS + usize::from(field));
+                let value = byte(round * SIZE + index * FIELDS + usize::from(field));
                 assert!(record.set(channel, field, value).is_ok());
                 expected[index][usize::from(field)] = value;
                 assert_eq!(by_name(&record.translator), expected);
@@ -196,10 +198,10 @@ mod tests {
     /// A message that looks random, mostly a Control Change that the translation holds.
     fn message(n: usize) -> Midi1ChannelVoiceMessage {
         let held = [101, 100, 6, 99, 98, 6, 38, 0, 32, 121, 96, 6, 38, 74];
-        let data = u32::from(mixed(7 * n) & 0x7F);
+        let data = u32::from(byte(7 * n) & 0x7F);
         let word = match n % 9 {
-            0 => (0x208 + u32::from(mixed(5 * n)) % 7) << 20 | data << 8,
-            _ => 0x20B0_0000 | held[usize::from(mixed(3 * n)) % held.len()] << 8 | data,
+            0 => (0x208 + u32::from(byte(5 * n)) % 7) << 20 | data << 8,
+            _ => 0x20B0_0000 | held[usize::from(byte(3 * n)) % held.len()] << 8 | data,
         };
         Midi1ChannelVoiceMessage::parse(&[word]).expect("it has the word form")
     }
