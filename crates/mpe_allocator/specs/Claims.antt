@@ -2,7 +2,7 @@
 use mathlib.Core.Path.{_≡_}
 use mathlib.Core.Bool.{true, false}
 use mathlib.Core.Logic.{_⊎_}
-use Prim.Native.Nat.{ℕ, _+_, _<_, _≤_}
+use Prim.Native.Nat.{ℕ, _+_, _%_, _<_, _≤_}
 use Rattle.mpe_layout.specs.Layout.{membersOf, lowestOf, roleOf}
 use Rattle.mpe_layout.specs.declared.MpeZone.{MpeZone}
 use Rattle.mpe_layout.specs.declared.MpeZone.the-variants.{Lower, Upper}
@@ -11,7 +11,7 @@ use Rattle.mpe_layout.specs.declared.MpeLayout.{MpeLayout}
 use Rattle.mpe_allocator.specs.declared.MpeNoteAllocator.{MpeNoteAllocator}
 use Rattle.mpe_allocator.specs.declared.NoteReply.{NoteReply}
 use Rattle.mpe_allocator.specs.declared.NoteReply.the-variants.{Channel}
-use Rattle.mpe_allocator.specs.Choice.{heldOn, releasedOn, markOf, recallsOn, Foremost, Chosen}
+use Rattle.mpe_allocator.specs.Choice.{heldOn, lastOn, releasedOn, markOf, recallsOn, Foremost, Chosen}
 
 -- a fact of the channel that a note got
 abbrev pub OfChannel : NoteReply → (ℕ → Type 0) → Type 0
@@ -34,17 +34,22 @@ abbrev pub TakenOnTie : MpeZone → ℕ → ℕ → Type 0
 TakenOnTie Lower c b = c ≤ b
 TakenOnTie Upper c b = b ≤ c
 
--- where a member recalls the note, the chosen one does, and no member that does was released later, or at the same clock and is taken on a tie
+-- with same-note on, a free channel whose last note is this one; notes are taken modulo 128, and a last note is kept with 0x80 added
+abbrev pub LastPlayed : MpeNoteAllocator → ℕ → ℕ → Type 0
+LastPlayed a note b = (a .«same_note» ≡ true) × (heldOn a b ≡ 0) × (lastOn a b ≡ 0x80 + note % 128)
+
+-- such a member goes first: the chosen one is such a member, and of two of them it was released later, or at the same clock and is taken on the tie
 abbrev pub RecallChosen : MpeNoteAllocator → MpeLayout → MpeZone → ℕ → ℕ → Type 0
 RecallChosen a l zone note c =
-    (b : ℕ) → MemberOf l zone b → recallsOn a (markOf note) b ≡ true →
-    (recallsOn a (markOf note) c ≡ true)
+    (b : ℕ) → MemberOf l zone b → LastPlayed a note b →
+    LastPlayed a note c
     × ((releasedOn a b < releasedOn a c) ⊎ ((releasedOn a b ≡ releasedOn a c) × TakenOnTie zone c b))
 
--- where the chosen one does not recall the note, no member has a smaller (held count, last release), or the same pair and is taken on a tie
+-- where no member is such, the chosen one has the smallest (held count, last release), or has it with others and is taken on the tie
 abbrev pub LeastChosen : MpeNoteAllocator → MpeLayout → MpeZone → ℕ → ℕ → Type 0
 LeastChosen a l zone note c =
-    (b : ℕ) → MemberOf l zone b → recallsOn a (markOf note) c ≡ false →
+    ((d : ℕ) → MemberOf l zone d → LastPlayed a note d → ⊥) →
+    (b : ℕ) → MemberOf l zone b →
     (heldOn a c < heldOn a b)
     ⊎ ((heldOn a c ≡ heldOn a b)
     × ((releasedOn a c < releasedOn a b) ⊎ ((releasedOn a c ≡ releasedOn a b) × TakenOnTie zone c b)))
