@@ -7,7 +7,7 @@ use Prim.Native.Nat.{ℕ, zero, suc, _+_, _-_, _<_, _≤_}
 use native.Mathlib.Omega.{arith}
 use borrow.Author.Tests.{ltb-true, ltb-false, le-leb, ne-eqb}
 use lib.Dec.{ltb, eqb}
-use lib.ListN.{length, getD, set, replicate, length-set, getD-replicate}
+use lib.ListN.{length, getD, set, replicate, getD-replicate}
 use lib.Seq.{getD-set-same, getD-set-other}
 use Rattle.ump.specs.Choice.{if_then_else_}
 use Rattle.ump.proofs.Cases.{by-test}
@@ -23,6 +23,7 @@ use Rattle.mpe_allocator.specs.Allocator.{emptied, oneMore, withNote, pl
 use Rattle.mpe_allocator.specs.Calls.{note-reply, afterCalls}
 use Rattle.mpe_allocator.specs.Filling.{fromManager, noteOns, FillsFromManager}
 use Rattle.mpe_allocator.proofs.Order.{less, equal}
+use Rattle.mpe_allocator.proofs.Storing.{Sized, sized-by, emptied-sized}
 use Rattle.mpe_allocator.proofs.Noted.{in-zone}
 
 -- ---- places from the manager
@@ -77,8 +78,7 @@ idlest-goes p q f i e g h = rw (e, g) h
 -- ---- the first k members hold a note each, the others were never played
 
 pub record Filled (a : MpeNoteAllocator) (zone : MpeZone) (k : ℕ) : Type 0 where
-  pub counts : length (a .active) ≡ 16
-  pub notes : length (a .«last_note») ≡ 16
+  pub sized : Sized a
   pub taken : (j : ℕ) → j < k → heldOn a (fromManager zone j) ≡ 1
   pub free : (j : ℕ) → k ≤ j → j < 15 → heldOn a (fromManager zone j) ≡ 0
   pub never-played : (j : ℕ) → k ≤ j → j < 15 → lastOn a (fromManager zone j) ≡ 0
@@ -124,15 +124,14 @@ module _ (a : MpeNoteAllocator) (l : MpeLayout) (zone : MpeZone) (k note : ℕ) 
   unfolding withNote
   one-more-held =
       let w : k < 15 = omega (arith, fifteen) in
-      getD-set-same (a .active) (fromManager zone k) _ 0 (omega (arith, channel zone k w, f .counts))
+      getD-set-same (a .active) (fromManager zone k) _ 0 (omega (arith, channel zone k w, f .sized .counts))
       ∙ ap oneMore (f .free k (omega arith) w)
 
   pub one-further : Filled (withNote a (markOf note) (fromManager zone k)) zone (k + 1)
   unfolding withNote
   one-further =
       record {
-        counts = length-set (a .active) (fromManager zone k) _ ∙ f .counts;
-        notes = length-set (a .«last_note») (fromManager zone k) _ ∙ f .notes;
+        sized = sized-by a (markOf note) (fromManager zone k) true false (f .sized);
         taken = λ j u.
             by-test (ltb j k)
             (λ t.
@@ -163,8 +162,7 @@ zero-at zone j v = getD-replicate 16 (fromManager zone j) 0 0 (channel zone j v)
 none-filled : (option : Bool) (zone : MpeZone) → Filled (emptied option) zone 0
 none-filled option zone =
     record {
-      counts = refl;
-      notes = refl;
+      sized = emptied-sized option;
       taken = λ j u. absurd (omega arith);
       free = λ j u v. zero-at zone j v;
       never-played = λ j u v. zero-at zone j v;

@@ -5,5 +5,6 @@ pub mod Ranks
 pub mod Read
 pub mod Noted
 pub mod Counts
+pub mod Storing
 pub mod Filled
 pub mod Examples

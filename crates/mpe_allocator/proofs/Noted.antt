@@ -25,7 +25,7 @@ use Rattle.mpe_allocator.proofs.Read.{chosen-is-member, one-chosen, rec
 
 -- ---- what `lowest_member` and `members` answered
 
-differ : {A : Type 0} → _≡_ {A = ℕ} 0 1 → A
+pub differ : {A : Type 0} → _≡_ {A = ℕ} 0 1 → A
 differ e = absurd (omega arith)
 
 out-by : (t e : Bool) (n : ℕ) → outOfRange ≡ (if t then (if e then noneThere else given n) else outOfRange) → t ≡ false

@@ -1,6 +1,6 @@
 -- Which channel a note got, as the two sentences of document 01, "The sending side", have it, with the tie of document 02, 2026-03.
 use mathlib.Core.Path.{_≡_}
-use mathlib.Core.Bool.{true, false}
+use mathlib.Core.Bool.{true}
 use mathlib.Core.Logic.{_⊎_}
 use Prim.Native.Nat.{ℕ, _+_, _%_, _<_, _≤_}
 use Rattle.mpe_layout.specs.Layout.{membersOf, lowestOf, roleOf}

@@ -3,5 +3,6 @@ pub mod Choice
 pub mod Claims
 pub mod Allocator
 pub mod Calls
+pub mod Stored
 pub mod Filling
 pub mod Examples

@@ -8,6 +8,7 @@ ghost use Rattle.mpe_allocator.specs.Choice.{heldOn, tieFirst, smallerFi
 ghost use Rattle.mpe_allocator.specs.Allocator.{emptied, noteReplyRead, oneMore, Placed, AllocatedAs, allocationOf, tick, withoutNote, withOption};
 ghost use Rattle.mpe_allocator.specs.Calls.{note-on, note-off, active-notes, same-note, set-same-note, reset, note-reply, count, option, nothing, CallGives, CountsSum};
 ghost use Rattle.mpe_allocator.specs.Examples.{AllocatesAsTabled};
+ghost use Rattle.mpe_allocator.specs.Stored.{AlwaysStored};
 ghost use Rattle.mpe_allocator.specs.Filling.{FillsFromManager};
 ghost use Rattle.mpe_allocator.specs.Claims.{OfChannel, ChosenIsMember, OneChosen, RecallChosen, LeastChosen, OnlyTiesTurned};
 use mpe_layout::LowestMember;
@@ -117,6 +118,7 @@ impl MpeNoteAllocator {
         ensures counts { λ r. ⌜ CountsSum r ⌝ }
         ensures fills { λ r. ⌜ FillsFromManager r ⌝ }
         ensures table { λ r. ⌜ AllocatesAsTabled ⌝ }
+        ensures stored { λ r. ⌜ AlwaysStored r ⌝ }
     {
         emptied(false)
     }

@@ -1,4 +1,4 @@
-// Items 60 to 68: the note allocator.
+// Items 60 to 65, 67 and 68: the note allocator.
 use crate::arguments;
 use crate::arguments::Item;
 use crate::line::Line;
