@@ -1,15 +1,15 @@
 -- Roles in a legal layout: no channel is in two zones, and which channels are the manager and the members of a zone.
 -- Assumes nothing.
-use mathlib.Core.Path.{_≡_, refl}
+use mathlib.Core.Path.{_≡_, refl, _∙_, ap}
 use mathlib.Core.Bool.{Bool, true, false}
 use mathlib.Core.Logic.{_⊎_, inl, inr, ⊎-elim}
 use Prim.Native.Nat.{ℕ, _+_, _-_, _<_, _≤_}
 use native.Mathlib.Nat.{add-zero}
 use native.Mathlib.Omega.{arith}
 use lib.Dec.{leb, eqb}
-use borrow.Author.Tests.{le-leb, lt-leb, eq-eqb, ne-eqb}
+use borrow.Author.Tests.{le-leb, lt-leb, eq-eqb, ne-eqb, eqb-true}
 use Rattle.ump.specs.Choice.{if_then_else_}
-use Rattle.mpe_layout.specs.Layout.{legal, membersOf, managerOf, lowestOf, placeOf, inside, roleOf}
+use Rattle.mpe_layout.specs.Layout.{legal, membersOf, managerOf, lowestOf, placeOf, inside, roleAt, roleOf}
 use Rattle.mpe_layout.specs.declared.MpeZone.{MpeZone}
 use Rattle.mpe_layout.specs.declared.MpeZone.the-variants.{Lower, Upper}
 use Rattle.mpe_layout.specs.declared.MpeRole.the-variants.{NoZone, Manager, Member}
@@ -109,3 +109,31 @@ lowest-role l zone h some = rw add-zero at (member-role l zone 0 h some)
 pub empty-role : (l : MpeLayout) (channel : ℕ) → l .lower ≡ 0 → l .upper ≡ 0 → roleOf l channel ≡ NoZone
 unfolding roleOf
 empty-role l channel p q = rw (place-empty (l .lower) channel p, place-empty (l .upper) (15 - channel) q)
+
+-- only the manager's channel has the manager's role
+at-manager : (members distance : ℕ) → placeOf members distance ≡ AsManager → distance ≡ 0
+unfolding placeOf
+at-manager members distance e = by (eqb members 0) (eqb distance 0) (leb distance members) (eqb-true distance 0) e
+  where
+    by : (a b c : Bool) → (b ≡ true → distance ≡ 0) → (if a then Outside else if b then AsManager else if c then AsMember else Outside) ≡ AsManager → distance ≡ 0
+    by true b c f e = let n : _≡_ {A = ℕ} 0 1 = cc in absurd (omega arith)
+    by false true c f e = f refl
+    by false false true f e = let n : _≡_ {A = ℕ} 0 1 = cc in absurd (omega arith)
+    by false false false f e = let n : _≡_ {A = ℕ} 0 1 = cc in absurd (omega arith)
+
+pub managers-channel : (l : MpeLayout) (channel : ℕ) (zone : MpeZone) → channel < 16 → roleOf l channel ≡ Manager zone → channel ≡ managerOf zone
+unfolding roleOf
+managers-channel l channel zone b e = by (placeOf (l .lower) channel) (placeOf (l .upper) (15 - channel)) refl refl e
+  where
+    by : (x y : ZonePlace) → placeOf (l .lower) channel ≡ x → placeOf (l .upper) (15 - channel) ≡ y → roleAt x y ≡ Manager zone → channel ≡ managerOf zone
+    by AsManager y p q e =
+        let z : Lower ≡ zone = cc in
+        at-manager (l .lower) channel p ∙ ap managerOf z
+    by AsMember y p q e = let n : _≡_ {A = ℕ} 0 1 = cc in absurd (omega arith)
+    by Outside AsManager p q e =
+        let d = at-manager (l .upper) (15 - channel) q in
+        let k : channel ≡ 15 = omega arith in
+        let z : Upper ≡ zone = cc in
+        k ∙ ap managerOf z
+    by Outside AsMember p q e = let n : _≡_ {A = ℕ} 0 1 = cc in absurd (omega arith)
+    by Outside Outside p q e = let n : _≡_ {A = ℕ} 0 1 = cc in absurd (omega arith)

@@ -6,19 +6,21 @@ use Prim.Native.Nat.{ℕ, zero, suc, _+_, _-_, _*_, _%_, _^_, _<_, _≤_}
 use native.Mathlib.Nat.{mul-le-mul, mul-le-mul-left, mul-zero}
 use native.Mathlib.Omega.{arith}
 use borrow.Author.Tests.{ltb-true, ltb-false}
-use lib.Dec.{ltb}
+use lib.Dec.{ltb, lit<, lit≤}
 use lib.IntN.{ℤ, pos, negsuc, natAbs, negℤ, subℕ, _+ℤ_, _-ℤ_, _*ℤ_, negℤ-negℤ}
 use lib.Signed.{_≤ℤ_}
 use mir.Syntax.{w32}
-use mir.Val.{SFits}
+use mir.Val.{toZ, ofZ}
+use mir.ValLaws.{toZ-ofZ}
 use Rattle.ump.specs.Choice.{if_then_else_}
 use Rattle.mpe_pitch.specs.declared.MpeSensitivity.{MpeSensitivity}
 use Rattle.mpe_pitch.specs.Pitch.{rangeOf, nearest, apart, pitchOffset}
-use Rattle.mpe_pitch.specs.Claims.{NearestTo, Within, scaled, OffsetNearest, NoTie, OffsetWithin, OffsetRises}
+use Rattle.mpe_pitch.specs.Remainder.{scaled}
+use Rattle.mpe_pitch.specs.Claims.{NearestTo, Within, OffsetNearest, NoTie, OffsetWithin, OffsetRises}
 use Rattle.mpe_pitch.proofs.Order.{pos-le, neg-le-pos, neg-le-neg, sum, within-fits}
 
 -- a magnitude and its sign
-abbrev turn : Bool → ℕ → ℤ
+abbrev pub turn : Bool → ℕ → ℤ
 turn b k = if b then negℤ (pos k) else pos k
 
 -- ---- differences
@@ -30,7 +32,7 @@ by-test a b false f g = let h = g refl in omega arith
 abs-sub : (a b : ℕ) → natAbs (subℕ a b) ≡ apart a b
 abs-sub a b = by-test a b (ltb a b) (ltb-true a b) (ltb-false a b)
 
-abs-pos-pos : (a b : ℕ) → natAbs (pos a -ℤ pos b) ≡ apart a b
+pub abs-pos-pos : (a b : ℕ) → natAbs (pos a -ℤ pos b) ≡ apart a b
 abs-pos-pos a zero = omega arith
 abs-pos-pos a (suc b) = abs-sub a (suc b)
 
@@ -47,7 +49,7 @@ abs-neg-pos zero (suc b) = abs-sub 0 (suc b) ∙ omega arith
 abs-neg-pos (suc a) zero = abs-sub 0 (suc a) ∙ omega arith
 abs-neg-pos (suc a) (suc b) = omega arith
 
-times-neg : (d k : ℕ) → pos d *ℤ negℤ (pos k) ≡ negℤ (pos (d * k))
+pub times-neg : (d k : ℕ) → pos d *ℤ negℤ (pos k) ≡ negℤ (pos (d * k))
 times-neg d zero = rw mul-zero
 times-neg d (suc k) = refl
 
@@ -88,7 +90,7 @@ exact-by d v false f g =
     let e : v - 8192 ≡ apart v 8192 = omega arith in
     ap (λ (m : ℕ). pos (d * m)) e
 
-exact : (d v : ℕ) → pos d *ℤ (pos v -ℤ pos 8192) ≡ turn (ltb v 8192) (d * apart v 8192)
+pub exact : (d v : ℕ) → pos d *ℤ (pos v -ℤ pos 8192) ≡ turn (ltb v 8192) (d * apart v 8192)
 exact d v = exact-by d v (ltb v 8192) (ltb-true v 8192) (ltb-false v 8192)
 
 pub offset-nearest : (value : ℕ) (s : MpeSensitivity) → OffsetNearest value s (pitchOffset value s)
@@ -123,15 +125,16 @@ unfolding pitchOffset
 offset-within value s =
     within-by (rangeOf s) (value % 2 ^ 14) (ltb (value % 2 ^ 14) 8192) (range-le s) (omega arith) (ltb-false (value % 2 ^ 14) 8192)
 
+-- an offset comes back whole from 32 bits
+pub offset-back : (z : ℤ) (v : ℕ) (s : MpeSensitivity) → z ≡ pitchOffset v s → toZ w32 (ofZ w32 z) ≡ pitchOffset v s
+offset-back z v s e =
+    rw e
+    (toZ-ofZ w32 (pitchOffset v s) (within-fits 1282857 1282700 (pitchOffset v s) (offset-within v s) (lit≤ tt) (lit< tt)))
+
 -- a member's offset is added to its manager's
 pub sum-within : (v w : ℕ) (s t : MpeSensitivity) → Within 2565714 2565400 (pitchOffset v s +ℤ pitchOffset w t)
 sum-within v w s t =
     sum 1282857 1282700 1282857 1282700 (pitchOffset v s) (pitchOffset w t) (offset-within v s) (offset-within w t)
-
--- the sum is an i32
-pub sum-fits : (v w : ℕ) (s t : MpeSensitivity) → SFits w32 (pitchOffset v s +ℤ pitchOffset w t)
-sum-fits v w s t =
-    within-fits 2565714 2565400 (pitchOffset v s +ℤ pitchOffset w t) (sum-within v w s t) (omega arith) (omega arith)
 
 -- ---- never falling
 

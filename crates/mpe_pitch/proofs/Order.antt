@@ -25,18 +25,18 @@ neg-le-neg (suc a) zero h = absurd (omega arith)
 neg-le-neg (suc a) (suc b) h = record { le = le→leb a b (omega arith) }
 
 -- the same bounds by the two constructors
-abbrev Bounds : ℕ → ℕ → ℤ → Type 0
+abbrev pub Bounds : ℕ → ℕ → ℤ → Type 0
 Bounds low high (pos n) = n ≤ high
 Bounds low high (negsuc n) = suc n ≤ low
 
-from : (low high : ℕ) (z : ℤ) → Within low high z → Bounds low high z
-from low high (pos n) (l, h) = leb→le n high (h .le)
-from zero high (negsuc n) (l, h) = absurd (l .le)
-from (suc low) high (negsuc n) (l, h) = let e = leb→le n low (l .le) in omega arith
+pub bounds-in : (low high : ℕ) (z : ℤ) → Within low high z → Bounds low high z
+bounds-in low high (pos n) (l, h) = leb→le n high (h .le)
+bounds-in zero high (negsuc n) (l, h) = absurd (l .le)
+bounds-in (suc low) high (negsuc n) (l, h) = let e = leb→le n low (l .le) in omega arith
 
-into : (low high : ℕ) (z : ℤ) → Bounds low high z → Within low high z
-into low high (pos n) b = (neg-le-pos low n, pos-le n high b)
-into low high (negsuc n) b = (neg-le-neg (suc n) low b, neg-le-pos (suc n) high)
+pub bounds-out : (low high : ℕ) (z : ℤ) → Bounds low high z → Within low high z
+bounds-out low high (pos n) b = (neg-le-pos low n, pos-le n high b)
+bounds-out low high (negsuc n) b = (neg-le-neg (suc n) low b, neg-le-pos (suc n) high)
 
 difference : (a b low high : ℕ) → a ≤ high → b ≤ low → Bounds low high (subℕ a b)
 difference a b low high h l = by (ltb a b) (ltb-true a b)
@@ -46,7 +46,7 @@ difference a b low high h l = by (ltb a b) (ltb-true a b)
     by false f = omega arith
 
 pub sum : (l h m k : ℕ) (y z : ℤ) → Within l h y → Within m k z → Within (l + m) (h + k) (y +ℤ z)
-sum l h m k y z p q = into (l + m) (h + k) (y +ℤ z) (both y z (from l h y p) (from m k z q))
+sum l h m k y z p q = bounds-out (l + m) (h + k) (y +ℤ z) (both y z (bounds-in l h y p) (bounds-in m k z q))
   where
     both : (y z : ℤ) → Bounds l h y → Bounds m k z → Bounds (l + m) (h + k) (y +ℤ z)
     both (pos a) (pos b) u v = omega arith
@@ -56,7 +56,7 @@ sum l h m k y z p q = into (l + m) (h + k) (y +ℤ z) (both y z (from l h y p) (
 
 -- wider bounds
 pub widen : (l h m k : ℕ) (z : ℤ) → l ≤ m → h ≤ k → Within l h z → Within m k z
-widen l h m k z p q w = into m k z (wide z (from l h z w))
+widen l h m k z p q w = bounds-out m k z (wide z (bounds-in l h z w))
   where
     wide : (z : ℤ) → Bounds l h z → Bounds m k z
     wide (pos n) b = omega arith
@@ -64,7 +64,7 @@ widen l h m k z p q w = into m k z (wide z (from l h z w))
 
 -- such a number is an i32
 pub within-fits : (low high : ℕ) (z : ℤ) → Within low high z → low ≤ 2 ^ 31 → high < 2 ^ 31 → SFits w32 z
-within-fits low high z p l h = record { sfits = small z (from low high z p) }
+within-fits low high z p l h = record { sfits = small z (bounds-in low high z p) }
   where
     small : (z : ℤ) → Bounds low high z → mag z < 2 ^ 31
     small (pos n) b = omega arith

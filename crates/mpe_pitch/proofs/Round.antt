@@ -7,7 +7,7 @@ use native.Mathlib.Omega.{arith}
 use Rattle.mpe_pitch.specs.Pitch.{nearest}
 
 -- d times m, by the quotient and the remainder of d
-parted : (k d m : ℕ) → d * m ≡ d / k * m * k + d % k * m
+pub parted : (k d m : ℕ) → d * m ≡ d / k * m * k + d % k * m
 parted k d m = ap (λ (n : ℕ). n * m) (sym (div-add-mod' d k)) ∙ (add-mul (d / k * k) (d % k) m ∙ ap (λ (n : ℕ). n + d % k * m) (mul-right-comm (d / k) k m))
 
 pub up : (d m : ℕ) → 8191 ≤ 2 * (d % 8191 * m % 8191) → d / 8191 * m + d % 8191 * m / 8191 + 1 ≡ nearest (d * m) 8191

@@ -1,10 +1,11 @@
 // Pitch bend sensitivity, and pitch offsets in hundredths of a cent (mpe.rs).
 ghost use mathlib.Core.Path.{_≡_};
 ghost use Prim.Native.Nat.{_+_, _*_, _<_, _≤_, min};
-ghost use lib.IntN.{natAbs};
+ghost use lib.IntN.{natAbs, pos, _-ℤ_};
 ghost use Rattle.ump.specs.Choice.{if_then_else_};
 ghost use Rattle.mpe_pitch.specs.Pitch.{managerDefault, memberDefault, rangeOf, nearest, pitchOffset, pitchBendValue};
-ghost use Rattle.mpe_pitch.specs.Claims.{OffsetNearest, NoTie, OffsetWithin, OffsetRises};
+ghost use Rattle.mpe_pitch.specs.Remainder.{offsetWithRemainder};
+ghost use Rattle.mpe_pitch.specs.Claims.{OffsetNearest, NoTie, OffsetWithin, OffsetRises, Within, IsPair, OnlyPair};
 
 // A Pitch Bend Sensitivity: semitones (Data Entry MSB of RPN 0) and cents (LSB), 7 bits each (M1-100 2.2.5).
 pub struct MpeSensitivity {
@@ -125,4 +126,42 @@ pub fn pitch_offset(value: u16, sensitivity: MpeSensitivity) -> i32
     }
     let k = scale_over_8191(d, v - 8192);
     k as i32
+}
+
+// A pitch offset and its remainder: the range times (value - 8192) is 8191 times the offset plus the remainder.
+pub struct OffsetWithRemainder {
+    pub offset: i32,
+    pub remainder: i32,
+}
+
+// What d times m has over the nearest multiple of 8191, in 32 bits.
+fn remainder_over_8191(d: u32, m: u32) -> i32
+    requires { ⌜ (d ≤ 1282700) × (m ≤ 8192) ⌝ }
+    ensures { λ r. ⌜ (r ≡ pos (d * m) -ℤ pos (8191 * nearest (d * m) 8191)) × Within 4095 4095 r ⌝ }
+{
+    let rest = (d % 8191) * m % 8191;
+    if rest > 4095 {
+        return -((8191 - rest) as i32);
+    }
+    rest as i32
+}
+
+// The pitch offset of a received 14-bit Pitch Bend value (Appendix C.5), with its remainder.
+pub fn pitch_offset_with_remainder(value: u16, sensitivity: MpeSensitivity) -> OffsetWithRemainder
+    ensures is { λ r. ⌜ r ≡ offsetWithRemainder value sensitivity ⌝ }
+    ensures pair { λ r. ⌜ IsPair value sensitivity r ⌝ }
+    ensures only { λ r. ⌜ OnlyPair value sensitivity r ⌝ }
+{
+    let offset = pitch_offset(value, sensitivity);
+    let v = (value & 0x3FFF) as u32;
+    let d = sensitivity.units();
+    if v < 8192 {
+        let r = remainder_over_8191(d, 8192 - v);
+        return OffsetWithRemainder {
+            offset,
+            remainder: -r,
+        };
+    }
+    let remainder = remainder_over_8191(d, v - 8192);
+    OffsetWithRemainder { offset, remainder }
 }

@@ -2,6 +2,7 @@
 pub mod Rest
 pub mod Parts
 pub mod Offsets
+pub mod Ratio
 pub mod WellFormed
 pub mod Resets
 pub mod Range

@@ -1,37 +1,52 @@
--- Offsets and their sums come back whole from 32 bits.
+-- The sum of two offsets with their remainders comes back whole from 32 bits.
 -- Assumes nothing.
-use Prim.Native.Nat.{ℕ}
+use Prim.Native.Nat.{ℕ, _+_, _^_, _<_, _≤_}
 use mathlib.Core.Path.{_≡_}
 use lib.Dec.{lit<, lit≤}
 use lib.IntN.{ℤ, _+ℤ_}
+use native.Mathlib.Omega.{arith}
 use mir.Syntax.{w32}
 use mir.Val.{toZ, ofZ, SFits}
 use mir.ValLaws.{toZ-ofZ}
-use Rattle.mpe_layout.specs.declared.MpeZone.{MpeZone}
-use Rattle.mpe_layout.specs.Layout.{managerOf}
 use Rattle.mpe_pitch.specs.declared.MpeSensitivity.{MpeSensitivity}
-use Rattle.mpe_pitch.specs.Pitch.{pitchOffset}
-use Rattle.mpe_pitch.proofs.Offset.{offset-within, sum-fits}
-use Rattle.mpe_pitch.proofs.Order.{within-fits}
-use Rattle.mpe_receiver.specs.declared.MpeReceiver.{MpeReceiver}
-use Rattle.mpe_receiver.specs.Read.{bendAt, sensitivityOf, managerOffset, memberOffset}
-use mathlib.Core.Bool.{true, false}
+use Rattle.mpe_pitch.specs.declared.OffsetWithRemainder.{OffsetWithRemainder}
+use Rattle.mpe_pitch.specs.Remainder.{offsetWithRemainder}
+use Rattle.mpe_pitch.specs.Claims.{Within, OffsetWithin}
+use Rattle.mpe_pitch.proofs.Order.{sum, within-fits}
+use Rattle.mpe_pitch.proofs.Offset.{offset-within}
+use Rattle.mpe_pitch.proofs.Remainder.{remainder-within}
 
-pub offset-back : (z : ℤ) (v : ℕ) (s : MpeSensitivity) → z ≡ pitchOffset v s → toZ w32 (ofZ w32 z) ≡ pitchOffset v s
-offset-back z v s e =
-    rw e
-    (toZ-ofZ w32 (pitchOffset v s) (within-fits 1282857 1282700 (pitchOffset v s) (offset-within v s) (lit≤ tt) (lit< tt)))
+-- two numbers within bounds, as the machine has them
+module _ (low high : ℕ) (l : low + low ≤ 2 ^ 31) (h : high + high < 2 ^ 31) (a b : ℤ) (p : Within low high a) (q : Within low high b) where
+  back : (z : ℤ) → Within low high z → toZ w32 (ofZ w32 z) ≡ z
+  back z w = toZ-ofZ w32 z (within-fits low high z w (omega arith) (omega arith))
 
-pub manager-back : (z : ℤ) (r : MpeReceiver) (zone : MpeZone) → z ≡ managerOffset r zone → toZ w32 (ofZ w32 z) ≡ managerOffset r zone
-unfolding managerOffset
-manager-back z r zone e = offset-back z (bendAt r (managerOf zone)) (sensitivityOf r zone true) e
+  fits : SFits w32 (a +ℤ b)
+  fits = within-fits (low + low) (high + high) (a +ℤ b) (sum low high low high a b p q) l h
 
-module _ (r : MpeReceiver) (zone : MpeZone) (channel : ℕ) where
-  pub member-fits : SFits w32 (managerOffset r zone +ℤ pitchOffset (bendAt r channel) (sensitivityOf r zone false))
-  unfolding managerOffset
-  member-fits =
-      sum-fits (bendAt r (managerOf zone)) (bendAt r channel) (sensitivityOf r zone true) (sensitivityOf r zone false)
+  added-fits : SFits w32 (toZ w32 (ofZ w32 a) +ℤ toZ w32 (ofZ w32 b))
+  added-fits = rw (back a p, back b q) fits
 
-  pub member-back : (z : ℤ) → z ≡ memberOffset r zone channel → toZ w32 (ofZ w32 z) ≡ memberOffset r zone channel
-  unfolding memberOffset
-  member-back z e = rw e (toZ-ofZ w32 _ member-fits)
+  added-back : toZ w32 (ofZ w32 (toZ w32 (ofZ w32 a) +ℤ toZ w32 (ofZ w32 b))) ≡ a +ℤ b
+  added-back = rw (back a p, back b q) (toZ-ofZ w32 (a +ℤ b) fits)
+
+-- the bounds of an offset with its remainder
+pub record Bounded (p : OffsetWithRemainder) : Type 0 where
+  pub offset-bound : OffsetWithin (p .offset)
+  pub remainder-bound : Within 4095 4095 (p .remainder)
+
+pub bounded : (p : OffsetWithRemainder) (v : ℕ) (s : MpeSensitivity) → p ≡ offsetWithRemainder v s → Bounded p
+bounded p v s e = rw e (record { offset-bound = offset-within v s; remainder-bound = remainder-within v s })
+
+module _ {p q : OffsetWithRemainder} (b : Bounded p) (c : Bounded q) where
+  pub offsets-fit : SFits w32 (toZ w32 (ofZ w32 (p .offset)) +ℤ toZ w32 (ofZ w32 (q .offset)))
+  offsets-fit = added-fits 1282857 1282700 (lit≤ tt) (lit< tt) (p .offset) (q .offset) (b .offset-bound) (c .offset-bound)
+
+  pub offsets-back : toZ w32 (ofZ w32 (toZ w32 (ofZ w32 (p .offset)) +ℤ toZ w32 (ofZ w32 (q .offset)))) ≡ p .offset +ℤ q .offset
+  offsets-back = added-back 1282857 1282700 (lit≤ tt) (lit< tt) (p .offset) (q .offset) (b .offset-bound) (c .offset-bound)
+
+  pub remainders-fit : SFits w32 (toZ w32 (ofZ w32 (p .remainder)) +ℤ toZ w32 (ofZ w32 (q .remainder)))
+  remainders-fit = added-fits 4095 4095 (lit≤ tt) (lit< tt) (p .remainder) (q .remainder) (b .remainder-bound) (c .remainder-bound)
+
+  pub remainders-back : toZ w32 (ofZ w32 (toZ w32 (ofZ w32 (p .remainder)) +ℤ toZ w32 (ofZ w32 (q .remainder)))) ≡ p .remainder +ℤ q .remainder
+  remainders-back = added-back 4095 4095 (lit≤ tt) (lit< tt) (p .remainder) (q .remainder) (b .remainder-bound) (c .remainder-bound)

@@ -1,4 +1,4 @@
--- The bench examples that document 01, "Bench examples", marks with a star, as one table: layouts, pitch and RPN 0.
+-- The bench examples that document 01, "Bench examples", marks with a star, and that of document 02, 2026-04, as one table: layouts, pitch and RPN 0.
 use Prim.Native.Nat.{ℕ, _+_, _*_, _^_}
 use mathlib.Core.List.{List, [], _∷_, map}
 use mathlib.Core.Path.{_≡_}
@@ -16,7 +16,9 @@ use Rattle.mpe_layout.specs.declared.MpeRole.the-variants.{Member}
 use Rattle.mpe_layout.specs.declared.MpeLayout.{MpeLayout}
 use Rattle.mpe_layout.specs.Layout.{layoutOf, newLayout, mcmLayout, roleGiven}
 use Rattle.mpe_pitch.specs.declared.MpeSensitivity.{MpeSensitivity}
+use Rattle.mpe_pitch.specs.declared.OffsetWithRemainder.{OffsetWithRemainder}
 use Rattle.mpe_pitch.specs.Pitch.{pitchOffset, pitchBendValue}
+use Rattle.mpe_pitch.specs.Remainder.{offsetWithRemainder}
 
 -- a call, with its arguments
 pub data BenchCall : Type 0 where
@@ -24,7 +26,7 @@ pub data BenchCall : Type 0 where
   with-mcm : MpeLayout → MpeZone → ℕ → BenchCall
   role : MpeLayout → ℕ → BenchCall
   pitch-bend-value : ℤ → MpeSensitivity → BenchCall
-  pitch-offset : ℕ → MpeSensitivity → BenchCall
+  pitch-offset pitch-offset-with-remainder : ℕ → MpeSensitivity → BenchCall
   -- of RPN 0, a change of semitones and cents
   apply : ParameterChange → ℕ → ℕ → BenchCall
 
@@ -34,6 +36,7 @@ pub data BenchReply : Type 0 where
   asRole : Outcome MpeRole → BenchReply
   asValue : ℕ → BenchReply
   asOffset : ℤ → BenchReply
+  asPair : OffsetWithRemainder → BenchReply
 
 -- semitones and cents as one value of 14 bits
 abbrev inAll : ℕ → ℕ → ℕ
@@ -42,6 +45,9 @@ inAll semitones cents = semitones * 2 ^ 7 + cents
 abbrev sensitivity : ℕ → ℕ → MpeSensitivity
 sensitivity semitones cents = record { semitones = semitones; cents = cents }
 
+abbrev pair : ℤ → ℤ → BenchReply
+pair offset remainder = asPair (record { offset = offset; remainder = remainder })
+
 -- what the call answers, by the term that its contract cites
 unfoldable pub replyTo : BenchCall → BenchReply
 replyTo (new lower upper) = asLayout (newLayout lower upper)
@@ -49,6 +55,7 @@ replyTo (with-mcm l zone members) = asLayout (mcmLayout l zone members)
 replyTo (role l channel) = asRole (roleGiven l channel)
 replyTo (pitch-bend-value offset s) = asValue (pitchBendValue offset s)
 replyTo (pitch-offset value s) = asOffset (pitchOffset value s)
+replyTo (pitch-offset-with-remainder value s) = asPair (offsetWithRemainder value s)
 replyTo (apply change semitones cents) =
     asValue (applied (record { parameter = Registered PitchBendSensitivity; change = change }) (inAll semitones cents))
 
@@ -75,6 +82,7 @@ table =
     ∷ example (pitch-offset 0 (sensitivity 48 0)) (asOffset (negℤ (pos 480059)))
     ∷ example (pitch-offset 16383 (sensitivity 48 0)) (asOffset (pos 480000))
     ∷ example (pitch-offset 12288 (sensitivity 48 0)) (asOffset (pos 240029))
+    ∷ example (pitch-offset-with-remainder 12288 (sensitivity 48 0)) (pair (pos 240029) (pos 2461))
     ∷ example (apply Increment 2 110) (asValue (inAll 3 0))
     ∷ example (apply Decrement 3 0) (asValue (inAll 2 99))
     ∷ []

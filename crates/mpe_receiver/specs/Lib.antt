@@ -4,4 +4,5 @@ pub mod Receive
 pub mod Read
 pub mod WellFormed
 pub mod Claims
+pub mod Ratio
 pub mod Bench

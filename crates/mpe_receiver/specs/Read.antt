@@ -11,10 +11,14 @@ use Rattle.mpe_layout.specs.declared.MpeRole.{MpeRole}
 use Rattle.mpe_layout.specs.declared.MpeRole.the-variants as role
 use Rattle.mpe_layout.specs.Layout.{managerOf}
 use Rattle.mpe_pitch.specs.declared.MpeSensitivity.{MpeSensitivity}
+use Rattle.mpe_pitch.specs.declared.OffsetWithRemainder.{OffsetWithRemainder}
 use Rattle.mpe_pitch.specs.Pitch.{pitchOffset}
+use Rattle.mpe_pitch.specs.Remainder.{offsetWithRemainder, sumOf}
 use Rattle.mpe_receiver.specs.declared.MpeReceiver.{MpeReceiver}
 use Rattle.mpe_receiver.specs.declared.Offset.{Offset}
 use Rattle.mpe_receiver.specs.declared.Offset.the-variants as offset
+use Rattle.mpe_receiver.specs.declared.OffsetPair.{OffsetPair}
+use Rattle.mpe_receiver.specs.declared.OffsetPair.the-variants as pair
 use Rattle.mpe_zones.specs.Zones.{monoOf, roleHeld}
 use Rattle.mpe_zones.specs.Zones as zones
 use Rattle.mpe_receiver.specs.State.{zonesOf}
@@ -54,3 +58,23 @@ offsetOf r channel = offsetByRole r channel (roleHeld (r .layout) channel)
 abbrev pub offsetRead : Offset → Outcome ℤ
 offsetRead (offset.Offset z) = given z
 offsetRead offset.NoRole = noneThere
+
+-- document 02, 2026-04: the same with the remainder; for a member the manager's offset and remainder are added in
+unfoldable pub managerPair : MpeReceiver → MpeZone → OffsetWithRemainder
+managerPair r zone = offsetWithRemainder (bendAt r (managerOf zone)) (sensitivityOf r zone true)
+
+unfoldable pub memberPair : MpeReceiver → MpeZone → ℕ → OffsetWithRemainder
+memberPair r zone channel =
+    sumOf (managerPair r zone) (offsetWithRemainder (bendAt r channel) (sensitivityOf r zone false))
+
+abbrev pub pairByRole : MpeReceiver → ℕ → MpeRole → Outcome OffsetWithRemainder
+pairByRole r channel role.NoZone = noneThere
+pairByRole r channel (role.Manager zone) = given (managerPair r zone)
+pairByRole r channel (role.Member zone) = given (memberPair r zone channel)
+
+abbrev pub pairOf : MpeReceiver → ℕ → Outcome OffsetWithRemainder
+pairOf r channel = pairByRole r channel (roleHeld (r .layout) channel)
+
+abbrev pub pairRead : OffsetPair → Outcome OffsetWithRemainder
+pairRead (pair.Pair p) = given p
+pairRead pair.NoRole = noneThere

@@ -8,8 +8,9 @@ ghost use Rattle.mpe_pitch.specs.Claims.{Within};
 ghost use Rattle.mpe_event.specs.Update.{mpeReplyRead, resetIn};
 ghost use Rattle.mpe_receiver.specs.State.{newReceiver, zonesOf, withZones};
 ghost use Rattle.mpe_receiver.specs.Receive.{stored, restUpto, receiverReply, receiverAfter, setReply, setState, settled};
-ghost use Rattle.mpe_receiver.specs.Read.{modeOf, sensitivityOf, bendAt, pressureAt, brightnessAt, managerOffset, memberOffset, offsetByRole, offsetOf, offsetRead};
+ghost use Rattle.mpe_receiver.specs.Read.{modeOf, sensitivityOf, bendAt, pressureAt, brightnessAt, offsetOf, offsetRead, managerPair, memberPair, pairByRole, pairOf, pairRead};
 ghost use Rattle.mpe_receiver.specs.Claims.{ControlsStored, MaskRests, ByZones};
+ghost use Rattle.mpe_receiver.specs.Ratio.{RatioByRole};
 ghost use Rattle.mpe_receiver.specs.Bench.{TableHolds};
 use mpe_event::MpeEvent;
 use mpe_event::MpeReply;
@@ -19,7 +20,8 @@ use mpe_layout::MpeLayout;
 use mpe_layout::MpeRole;
 use mpe_layout::MpeZone;
 use mpe_pitch::MpeSensitivity;
-use mpe_pitch::pitch_offset;
+use mpe_pitch::OffsetWithRemainder;
+use mpe_pitch::pitch_offset_with_remainder;
 use mpe_reset::ResetMask;
 use mpe_reset::names;
 use mpe_zones::Zones;
@@ -63,6 +65,12 @@ pub struct LayoutSet {
 // What `pitch_offset` answers.
 pub enum Offset {
     Offset(i32),
+    NoRole,
+}
+
+// What `pitch_offset_with_remainder` answers.
+pub enum OffsetPair {
+    Pair(OffsetWithRemainder),
     NoRole,
 }
 
@@ -283,30 +291,45 @@ impl MpeReceiver {
         self.brightness[i]
     }
 
-    fn manager_offset(self, zone: MpeZone) -> i32
-        ensures { λ r. ⌜ r ≡ managerOffset self zone ⌝ }
+    fn manager_pair(self, zone: MpeZone) -> OffsetWithRemainder
+        ensures { λ r. ⌜ r ≡ managerPair self zone ⌝ }
     {
-        pitch_offset(
+        pitch_offset_with_remainder(
             self.pitch_bend(zone.manager()),
             self.sensitivity(zone, true),
         )
     }
 
-    fn member_offset(self, zone: MpeZone, channel: u8) -> i32
-        ensures { λ r. ⌜ r ≡ memberOffset self zone channel ⌝ }
+    fn member_pair(self, zone: MpeZone, channel: u8) -> OffsetWithRemainder
+        ensures { λ r. ⌜ r ≡ memberPair self zone channel ⌝ }
     {
-        self.manager_offset(zone)
-            + pitch_offset(self.pitch_bend(channel), self.sensitivity(zone, false))
+        let manager = self.manager_pair(zone);
+        let own = pitch_offset_with_remainder(
+            self.pitch_bend(channel),
+            self.sensitivity(zone, false),
+        );
+        OffsetWithRemainder {
+            offset: manager.offset + own.offset,
+            remainder: manager.remainder + own.remainder,
+        }
     }
 
-    fn offset_by_role(self, channel: u8, role: MpeRole) -> Offset
-        ensures { λ r. ⌜ offsetRead r ≡ offsetByRole self channel role ⌝ }
+    fn pair_by_role(self, channel: u8, role: MpeRole) -> OffsetPair
+        ensures { λ r. ⌜ pairRead r ≡ pairByRole self channel role ⌝ }
     {
         match role {
-            MpeRole::NoZone => Offset::NoRole,
-            MpeRole::Manager(zone) => Offset::Offset(self.manager_offset(zone)),
-            MpeRole::Member(zone) => Offset::Offset(self.member_offset(zone, channel)),
+            MpeRole::NoZone => OffsetPair::NoRole,
+            MpeRole::Manager(zone) => OffsetPair::Pair(self.manager_pair(zone)),
+            MpeRole::Member(zone) => OffsetPair::Pair(self.member_pair(zone, channel)),
         }
+    }
+
+    // The offset of a channel with its remainder: a manager's are its own, a member's are added to its manager's.
+    pub fn pitch_offset_with_remainder(self, channel: u8) -> OffsetPair
+        ensures is { λ r. ⌜ pairRead r ≡ pairOf self channel ⌝ }
+        ensures ratio { λ r. ⌜ RatioByRole self channel (pairRead r) ⌝ }
+    {
+        self.pair_by_role(channel, self.zones().role(channel))
     }
 
     // The offset of a channel in hundredths of a cent: a member's is added to its manager's.
@@ -314,6 +337,9 @@ impl MpeReceiver {
         ensures is { λ r. ⌜ offsetRead r ≡ offsetOf self channel ⌝ }
         ensures within { λ r. ⌜ ((z : ℤ) → offsetRead r ≡ given z → Within 2565714 2565400 z) ⌝ }
     {
-        self.offset_by_role(channel, self.zones().role(channel))
+        match self.pitch_offset_with_remainder(channel) {
+            OffsetPair::Pair(pair) => Offset::Offset(pair.offset),
+            OffsetPair::NoRole => Offset::NoRole,
+        }
     }
 }

@@ -15,7 +15,7 @@ use Rattle.byte_reader.specs.declared.Read.the-variants.{Quiet, Dropped, RealTi
 use Rattle.receiving_end.specs.declared.end.End.{End}
 use Rattle.byte_reader.specs.Reader.{readStep, readAll, Sound}
 use Rattle.receiving_end.specs.End.{newEnd, withReader, withReceiver, withParameter, messageAt, answerStep, stepOf, stepEnd}
-use Rattle.receiving_end.specs.Lists.{Call, byteByValue, byteLent, setLayout, setRpnReception, setNrpnReception, layout, mode, sensitivity, pitchBend, pressure, brightness, pitchOffset, selection, rpnReception, nrpnReception, next, after}
+use Rattle.receiving_end.specs.Lists.{Call, byteByValue, byteLent, setLayout, setRpnReception, setNrpnReception, layout, mode, sensitivity, pitchBend, pressure, brightness, pitchOffset, pitchOffsetWithRemainder, selection, rpnReception, nrpnReception, next, after}
 use Rattle.receiving_end.specs.WellFormed.{EndFormed, AlwaysFormed}
 use Rattle.byte_reader.proofs.Formed.{new-sound, sound-after}
 
@@ -65,6 +65,7 @@ next-formed e (pitchBend channel) f = f
 next-formed e (pressure channel) f = f
 next-formed e (brightness channel) f = f
 next-formed e (pitchOffset channel) f = f
+next-formed e (pitchOffsetWithRemainder channel) f = f
 next-formed e (selection channel) f = f
 next-formed e (rpnReception channel) f = f
 next-formed e (nrpnReception channel) f = f

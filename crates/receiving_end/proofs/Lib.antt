@@ -5,3 +5,4 @@ pub mod Parts
 pub mod Receive
 pub mod Numbers
 pub mod Always
+pub mod Ratio

@@ -2,3 +2,4 @@
 pub mod End
 pub mod Lists
 pub mod WellFormed
+pub mod Ratio

@@ -10,8 +10,9 @@ use Rattle.parameters.specs.State.{selectionOf}
 use Rattle.mpe_layout.specs.declared.MpeZone.{MpeZone}
 use Rattle.mpe_layout.specs.declared.MpeLayout.{MpeLayout}
 use Rattle.mpe_pitch.specs.declared.MpeSensitivity.{MpeSensitivity}
+use Rattle.mpe_pitch.specs.declared.OffsetWithRemainder.{OffsetWithRemainder}
 use Rattle.mpe_receiver.specs.Receive.{setReply}
-use Rattle.mpe_receiver.specs.Read.{modeOf, sensitivityOf, bendAt, pressureAt, brightnessAt, offsetOf}
+use Rattle.mpe_receiver.specs.Read.{modeOf, sensitivityOf, bendAt, pressureAt, brightnessAt, offsetOf, pairOf}
 use Rattle.receiving_end.specs.declared.end.End.{End}
 use Rattle.receiving_end.specs.declared.end.Reply.{Reply}
 use Rattle.receiving_end.specs.End.{parameterAt, stepReply, stepEnd, laidOutEnd, rpnSwitchedAt, nrpnSwitchedAt}
@@ -25,7 +26,7 @@ pub data Call : Type 0 where
   layout : Call
   mode : MpeZone → Call
   sensitivity : MpeZone → Bool → Call
-  pitchBend pressure brightness pitchOffset : ℕ → Call
+  pitchBend pressure brightness pitchOffset pitchOffsetWithRemainder : ℕ → Call
   selection rpnReception nrpnReception : ℕ → Call
 
 -- what a call answers
@@ -37,6 +38,7 @@ pub data Answer : Type 0 where
   counted : ℕ → Answer
   ranged : MpeSensitivity → Answer
   offset : Outcome ℤ → Answer
+  paired : Outcome OffsetWithRemainder → Answer
   selected : Selection → Answer
   switched : Bool → Answer
 
@@ -54,6 +56,7 @@ answer e (pitchBend channel) = counted (bendAt (e .receiver) channel)
 answer e (pressure channel) = counted (pressureAt (e .receiver) channel)
 answer e (brightness channel) = counted (brightnessAt (e .receiver) channel)
 answer e (pitchOffset channel) = offset (offsetOf (e .receiver) channel)
+answer e (pitchOffsetWithRemainder channel) = paired (pairOf (e .receiver) channel)
 answer e (selection channel) = selected (selectionOf (parameterAt e (packetValue channel)))
 answer e (rpnReception channel) = switched (parameterAt e (packetValue channel) .«rpn_on»)
 answer e (nrpnReception channel) = switched (parameterAt e (packetValue channel) .«nrpn_on»)
@@ -72,6 +75,7 @@ next e (pitchBend channel) = e
 next e (pressure channel) = e
 next e (brightness channel) = e
 next e (pitchOffset channel) = e
+next e (pitchOffsetWithRemainder channel) = e
 next e (selection channel) = e
 next e (rpnReception channel) = e
 next e (nrpnReception channel) = e

@@ -8,9 +8,11 @@ ghost use Rattle.parameters.specs.State.{selectionOf};
 ghost use Rattle.mpe_reset.specs.Reset.{maskFound};
 ghost use Rattle.mpe_pitch.specs.Claims.{Within};
 ghost use Rattle.mpe_receiver.specs.Receive.{setReply};
-ghost use Rattle.mpe_receiver.specs.Read.{modeOf, sensitivityOf, bendAt, pressureAt, brightnessAt, offsetOf, offsetRead};
-ghost use Rattle.receiving_end.specs.Lists.{setLayout, setRpnReception, setNrpnReception, layout, mode, sensitivity, pitchBend, pressure, brightness, pitchOffset, selection, rpnReception, nrpnReception, masked, done, laidOut, counted, ranged, offset, selected, switched, answer, next};
+ghost use Rattle.mpe_receiver.specs.Read.{modeOf, sensitivityOf, bendAt, pressureAt, brightnessAt, offsetOf, offsetRead, pairOf, pairRead};
+ghost use Rattle.mpe_receiver.specs.Ratio.{RatioByRole};
+ghost use Rattle.receiving_end.specs.Lists.{setLayout, setRpnReception, setNrpnReception, layout, mode, sensitivity, pitchBend, pressure, brightness, pitchOffset, pitchOffsetWithRemainder, selection, rpnReception, nrpnReception, masked, done, laidOut, counted, ranged, offset, paired, selected, switched, answer, next};
 ghost use Rattle.receiving_end.specs.WellFormed.{AlwaysFormed};
+ghost use Rattle.receiving_end.specs.Ratio.{AlwaysRatio};
 ghost use Rattle.receiving_end.specs.End.{newEnd, parameterAt, withParameter, laidOutEnd, rpnSwitchedAt, nrpnSwitchedAt};
 use byte_reader::Reader;
 use mpe_event::MpeEvent;
@@ -19,6 +21,7 @@ use mpe_layout::MpeZone;
 use mpe_pitch::MpeSensitivity;
 use mpe_receiver::MpeReceiver;
 use mpe_receiver::Offset;
+use mpe_receiver::OffsetPair;
 use mpe_reset::ResetMask;
 use parameters::ParameterState;
 use parameters::Selection;
@@ -56,6 +59,7 @@ impl End {
     pub fn new() -> End
         ensures is { λ r. ⌜ r ≡ newEnd ⌝ }
         ensures always { λ _. ⌜ AlwaysFormed ⌝ }
+        ensures ratio { λ _. ⌜ AlwaysRatio ⌝ }
     {
         End {
             reader: Reader::new(),
@@ -198,5 +202,15 @@ impl End {
     {
         let receiver = self.receiver;
         receiver.pitch_offset(channel)
+    }
+
+    // The channel's offset with its remainder, from -8,190 to 8,190.
+    pub fn pitch_offset_with_remainder(self, channel: u8) -> OffsetPair
+        ensures is { λ r. ⌜ pairRead r ≡ pairOf (self .receiver) channel ⌝ }
+        ensures call { λ r. ⌜ (paired (pairRead r) ≡ answer self (pitchOffsetWithRemainder channel)) × (self ≡ next self (pitchOffsetWithRemainder channel)) ⌝ }
+        ensures ratio { λ r. ⌜ RatioByRole (self .receiver) channel (pairRead r) ⌝ }
+    {
+        let receiver = self.receiver;
+        receiver.pitch_offset_with_remainder(channel)
     }
 }

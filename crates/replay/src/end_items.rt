@@ -1,4 +1,4 @@
-// Items 00 to 08: the receiving end.
+// Items 00 to 09: the receiving end.
 use crate::arguments::Item;
 use crate::line::Line;
 use crate::parameter_items;
@@ -93,6 +93,17 @@ fn channel(end: End, c: u8) -> Line {
     )
 }
 
+// What an item reads of the end.
+fn reading(end: End, operation: u8, c: u8) -> Line {
+    if operation == 0x06 {
+        return zones(end);
+    }
+    if operation == 0x07 {
+        return channel(end, c);
+    }
+    receiver_items::pair_or_none(end.pitch_offset_with_remainder(c))
+}
+
 // The end after an item that answers nothing.
 fn changed(end: End, operation: u8, c: u8, on: bool) -> End {
     if operation == 0x00 {
@@ -121,16 +132,10 @@ pub(crate) fn answer(end: End, item: Item) -> EndAnswered {
     if operation == 0x03 {
         return set_layout(end, first, second);
     }
-    if operation == 0x06 {
+    if operation == 0x06 || operation == 0x07 || operation == 0x09 {
         return EndAnswered {
             end,
-            line: zones(end),
-        };
-    }
-    if operation == 0x07 {
-        return EndAnswered {
-            end,
-            line: channel(end, first),
+            line: reading(end, operation, first),
         };
     }
     EndAnswered {

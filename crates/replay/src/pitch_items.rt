@@ -1,10 +1,12 @@
-// Items 20 and 21: pitch bend values and pitch offsets.
+// Items 20 to 22: pitch bend values, and pitch offsets without and with their remainders.
 use crate::arguments;
 use crate::arguments::Item;
 use crate::line::Line;
+use crate::receiver_items;
 use mpe_pitch::MpeSensitivity;
 use mpe_pitch::pitch_bend_value;
 use mpe_pitch::pitch_offset;
+use mpe_pitch::pitch_offset_with_remainder;
 
 // Answers item 20.
 fn bend_value(item: Item) -> Line {
@@ -26,5 +28,8 @@ pub(crate) fn answer(item: Item) -> Line {
         semitones: item.a3,
         cents: item.a4,
     };
-    Line::new().with_signed(pitch_offset(value, sensitivity))
+    if item.operation == 0x21 {
+        return Line::new().with_signed(pitch_offset(value, sensitivity));
+    }
+    receiver_items::pair(pitch_offset_with_remainder(value, sensitivity))
 }

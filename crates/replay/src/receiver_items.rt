@@ -1,4 +1,4 @@
-// Items 40 to 44: the receiver of one input.
+// Items 40 to 45: the receiver of one input.
 use crate::arguments;
 use crate::arguments::Item;
 use crate::line::Line;
@@ -8,8 +8,10 @@ use mpe_event::MpeReply;
 use mpe_layout::MpeLayout;
 use mpe_layout::MpeZone;
 use mpe_pitch::MpeSensitivity;
+use mpe_pitch::OffsetWithRemainder;
 use mpe_receiver::MpeReceiver;
 use mpe_receiver::Offset;
+use mpe_receiver::OffsetPair;
 use mpe_reset::ResetMask;
 use parameter_event::ParameterEvent;
 use parameters::MaybeEvent;
@@ -65,6 +67,21 @@ pub(crate) fn channel(bend: u16, pressure: u8, brightness: u8, offset: Offset) -
     match offset {
         Offset::Offset(z) => line.with_signed(z),
         Offset::NoRole => line.with(b'-', 0),
+    }
+}
+
+// An offset and its remainder.
+pub(crate) fn pair(offset: OffsetWithRemainder) -> Line {
+    Line::new()
+        .with_signed(offset.offset)
+        .with_signed(offset.remainder)
+}
+
+// What `pitch_offset_with_remainder` answers.
+pub(crate) fn pair_or_none(answer: OffsetPair) -> Line {
+    match answer {
+        OffsetPair::Pair(offset) => pair(offset),
+        OffsetPair::NoRole => Line::new().with(b'-', 0),
     }
 }
 
@@ -151,8 +168,14 @@ pub(crate) fn answer(receiver: MpeReceiver, item: Item) -> ReceiverAnswered {
             line: zones_of(receiver),
         };
     }
+    if operation == 0x44 {
+        return ReceiverAnswered {
+            receiver,
+            line: channel_of(receiver, item.a1),
+        };
+    }
     ReceiverAnswered {
         receiver,
-        line: channel_of(receiver, item.a1),
+        line: pair_or_none(receiver.pitch_offset_with_remainder(item.a1)),
     }
 }

@@ -55,7 +55,7 @@ pub fn pitch(g: &mut Generator) {
         item.push(0x20);
         item.extend(offset(g, range(sensitivity)).to_be_bytes());
     } else {
-        item.push(0x21);
+        item.push(g.random.one_of(&[0x21, 0x22]));
         item.extend(g.random.fourteen_or_so().to_be_bytes());
     }
     item.extend(sensitivity);

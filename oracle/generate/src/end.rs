@@ -226,19 +226,25 @@ pub fn switch(g: &mut Generator) {
     g.items.put(&[switch, channel, on]);
 }
 
+/// Reads a channel, and its offset with the remainder.
+pub fn read_channel(g: &mut Generator, channel: u8) {
+    g.items.put(&[0x07, channel]);
+    g.items.put(&[0x09, channel]);
+}
+
 /// Reads the zones and one channel or all of them.
 pub fn read(g: &mut Generator) {
     match g.random.below(8) {
         0 => {
             g.items.put(&[0x06]);
             for channel in 0..16 {
-                g.items.put(&[0x07, channel]);
+                read_channel(g, channel);
             }
         }
         1..=3 => g.items.put(&[0x06]),
         _ => {
             let channel = g.random.channel_as_given();
-            g.items.put(&[0x07, channel]);
+            read_channel(g, channel);
         }
     }
 }

@@ -233,14 +233,16 @@ fn bend_value(items: &mut Items, offset: i64, [semitones, cents]: [u8; 2]) {
     items.put(&[0x20, a, b, c, d, semitones, cents]);
 }
 
-/// Every bend as an offset; the offsets on both sides of each step from one bend to the next; and
-/// the limits.
+/// Every bend as an offset, alone and with its remainder; the offsets on both sides of each step
+/// from one bend to the next; and the limits.
 fn pitch(items: &mut Items) {
     for sensitivity in SENSITIVITIES {
         let range = range(sensitivity);
         for value in 0..=0x3FFFu16 {
             let [high, low] = value.to_be_bytes();
-            items.put(&[0x21, high, low, sensitivity[0], sensitivity[1]]);
+            for operation in [0x21, 0x22] {
+                items.put(&[operation, high, low, sensitivity[0], sensitivity[1]]);
+            }
             let half = 2 * (i64::from(value) - 0x2000) + 1;
             let step = (half * range).div_euclid(16384);
             bend_value(items, step, sensitivity);

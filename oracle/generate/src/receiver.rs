@@ -152,14 +152,20 @@ fn message(g: &mut Generator) {
     receive(g, word, None);
 }
 
+/// Reads a channel, and its offset with the remainder.
+fn read_channel(g: &mut Generator, channel: u8) {
+    g.items.put(&[0x44, channel]);
+    g.items.put(&[0x45, channel]);
+}
+
 fn read_channels(g: &mut Generator) {
     if g.random.once_in(3) {
         for channel in 0..16 {
-            g.items.put(&[0x44, channel]);
+            read_channel(g, channel);
         }
     } else {
         let channel = g.random.channel_as_given();
-        g.items.put(&[0x44, channel]);
+        read_channel(g, channel);
     }
 }
 

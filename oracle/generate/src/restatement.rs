@@ -64,7 +64,7 @@ fn given(g: &mut Generator) {
     g.status = Some(0xDF);
     g.items.put(&[0x06]);
     for channel in 0..16 {
-        g.items.put(&[0x07, channel]);
+        end::read_channel(g, channel);
     }
     for _ in 0..g.random.below(4) {
         end::phrase(g);

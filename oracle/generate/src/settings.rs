@@ -1,6 +1,8 @@
 //! Settings, and their restatement as bytes, written by hand from document 01, "Restatement", and
-//! document 02, 2026-01, and apart from that of `trace`.
+//! document 02, 2026-01, and apart from that of `trace`; so are the offsets that the settings give,
+//! with the remainders of document 02, 2026-04.
 
+use crate::calls::range;
 use crate::random::Random;
 
 /// Semitones and cents.
@@ -188,6 +190,31 @@ impl Settings {
             )
         })
     }
+
+    /// The answer to item 09 of each channel: its offset with the remainder.
+    pub fn shown_offsets(&self) -> [String; 16] {
+        let mut shown = std::array::from_fn(|_| "-".to_string());
+        for (manager, lowest, members, zone) in self.active() {
+            let part = |channel: u8, sensitivity| {
+                let bend = self.channels[usize::from(channel)].bend;
+                offset_with_remainder(bend, sensitivity)
+            };
+            let [offset, left] = part(manager, zone.manager);
+            shown[usize::from(manager)] = format!("{offset} {left}");
+            for member in lowest..lowest + members {
+                let [own_offset, own_left] = part(member, zone.member);
+                shown[usize::from(member)] = format!("{} {}", offset + own_offset, left + own_left);
+            }
+        }
+        shown
+    }
+}
+
+/// The offset of one bend, the nearest to its range × (bend − 8192) / 8191, and the remainder, from
+/// −4095 to 4095 (document 02, 2026-04).
+fn offset_with_remainder(bend: u16, sensitivity: Sensitivity) -> [i64; 2] {
+    let raised = range(sensitivity) * (i64::from(bend) - 8192) + 4095;
+    [raised.div_euclid(8191), raised.rem_euclid(8191) - 4095]
 }
 
 /// Registered parameter 0 0 or 0 6 (its lower half is `number`) and data entry MSB, each message
@@ -208,6 +235,19 @@ fn group(bytes: &mut Vec<u8>, channel: u8, [semitones, cents]: Sensitivity) {
 #[cfg(test)]
 mod tests {
     use super::*;
+
+    /// Document 02's own example, a bend at rest, and both ends of a range.
+    #[test]
+    fn offsets_with_remainders() {
+        for (bend, expected) in [
+            (12288, [240_029, 2461]),
+            (8192, [0, 0]),
+            (16383, [480_000, 0]),
+            (0, [-480_059, 3269]),
+        ] {
+            assert_eq!(offset_with_remainder(bend, [48, 0]), expected);
+        }
+    }
 
     /// The sizes of document 01, "Bench examples", with the cents of document 02: 108 + 5z + 4m
     /// messages.

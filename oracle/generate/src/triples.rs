@@ -56,9 +56,11 @@ fn triple(g: &mut Generator, printer: &mut Printer) {
 /// The readings that show the settings, and the future.
 fn shown(printer: &mut Printer, settings: &Settings, future: &[Item]) {
     printer.comment("shown");
+    let channels = settings.shown_channels().into_iter();
+    let channels = channels.zip(settings.shown_offsets());
     let expected = [settings.shown_zones()]
         .into_iter()
-        .chain(settings.shown_channels());
+        .chain(channels.flat_map(|(controls, offset)| [controls, offset]));
     for (item, words) in readings().iter().zip(expected) {
         printer.comment(&format!("expect {words}"));
         printer.item(item);
@@ -76,9 +78,9 @@ fn written(printer: &mut Printer, settings: &Settings, bytes: &[u8]) {
     printer.item(&[&[0x70], &settings.record()[..], &length].concat());
 }
 
-/// The readings of the zones and of every channel.
+/// The readings of the zones, and of every channel with its offset and the remainder.
 fn readings() -> Vec<Item> {
-    let channels = (0..16).map(|channel| vec![0x07, channel]);
+    let channels = (0..16).flat_map(|channel| [vec![0x07, channel], vec![0x09, channel]]);
     [vec![0x06]].into_iter().chain(channels).collect()
 }
 

@@ -68,6 +68,14 @@ pub fn translation(words: Option<[u32; 2]>) -> String {
     }
 }
 
+/// An offset and its remainder, or none for a channel without a role.
+pub fn offset(offset: Option<(i32, i64)>) -> String {
+    match offset {
+        Some((offset, remainder)) => format!("{offset} {remainder}"),
+        None => "-".into(),
+    }
+}
+
 /// The fields of a message by upstream's own cuts: message type, group, opcode, channel, and two
 /// data bytes, the second 0 where the message has one.
 pub fn fields(message: &Midi1ChannelVoiceMessage) -> String {

@@ -5,6 +5,7 @@ use crate::answer::{self, numbers, ok, with_buffer, words, Answer, Refusal};
 use crate::arguments::Arguments;
 use crate::end::{End, Reply};
 use crate::record::Record;
+use crate::remainder;
 use crate::restatement::{as_words, put};
 use crate::sensitivity::{sensitivity_messages, zone_sensitivity_messages};
 use zmidi_io::mpe::{
@@ -56,10 +57,10 @@ const KINDS: [MpeMessage; 21] = [
 pub fn length(operation: u8) -> Option<usize> {
     Some(match operation {
         0x00 | 0x06 | 0x34 | 0x36 | 0x39 | 0x40 | 0x43 | 0x60 | 0x64 | 0x65 | 0x80 => 0,
-        0x01 | 0x02 | 0x07 | 0x08 | 0x37 | 0x38 | 0x44 | 0x62 | 0x63 | 0x83 => 1,
+        0x01 | 0x02 | 0x07..=0x09 | 0x37 | 0x38 | 0x44 | 0x45 | 0x62 | 0x63 | 0x83 => 1,
         0x03 | 0x04 | 0x05 | 0x10 | 0x15 | 0x16 | 0x42 | 0x51 | 0x82 => 2,
         0x12..=0x14 | 0x52 | 0x84 => 3,
-        0x11 | 0x18 | 0x21 | 0x35 | 0x50 | 0x54 | 0x61 | 0x67 | 0x81 => 4,
+        0x11 | 0x18 | 0x21 | 0x22 | 0x35 | 0x50 | 0x54 | 0x61 | 0x67 | 0x81 => 4,
         0x68 => 5,
         0x20 | 0x86..=0x89 => 6,
         0x17 | 0x55 => 7,
@@ -148,6 +149,7 @@ impl States {
             }
             0x06 => return Ok(answer::zones(&end.receiver)),
             0x07 => return Ok(end_channel(end, arguments.channel())),
+            0x09 => return Ok(channel_offset(&end.receiver, arguments.channel())),
             0x72 => restate(end, arguments),
             _ => unreachable!("an unknown operation has no length"),
         }
@@ -184,6 +186,7 @@ impl States {
             0x42 => return set_layout(receiver, arguments),
             0x43 => return Ok(answer::zones(receiver)),
             0x44 => return Ok(answer::channel(receiver, arguments.channel())),
+            0x45 => return Ok(channel_offset(receiver, arguments.channel())),
             _ => unreachable!("an unknown operation has no length"),
         }
         ok()
@@ -253,6 +256,11 @@ fn set_layout(receiver: &mut MpeReceiver, arguments: &mut Arguments) -> Answer {
 fn end_channel(end: &mut End, channel: Channel) -> String {
     let controls = answer::channel(&end.receiver, channel);
     controls + " " + &answer::parameters(end.parameters(channel))
+}
+
+/// A channel's offset with its remainder.
+fn channel_offset(receiver: &MpeReceiver, channel: Channel) -> String {
+    answer::offset(remainder::channel_pitch_offset(receiver, channel))
 }
 
 /// Gives the end a restatement, byte by byte; settings that are refused leave it alone.
@@ -336,6 +344,11 @@ fn pitch_item(operation: u8, arguments: &mut Arguments) -> Answer {
         0x21 => {
             let value = arguments.two();
             Ok(mpe::pitch_offset(value, arguments.sensitivity()).to_string())
+        }
+        0x22 => {
+            let value = arguments.two();
+            let offset = remainder::pitch_offset(value, arguments.sensitivity());
+            Ok(answer::offset(Some(offset)))
         }
         _ => unreachable!("an unknown operation has no length"),
     }

@@ -13,6 +13,7 @@ mod items;
 mod pairs;
 mod reader;
 mod record;
+mod remainder;
 mod restatement;
 mod sensitivity;
 
