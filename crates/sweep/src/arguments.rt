@@ -1,7 +1,8 @@
-// The program's arguments as numbers.
+// The program's arguments: a word, and numbers.
+ghost use Prim.Native.Nat.{_+_, _^_, _<_};
 
 // What an argument says.
-pub(crate) enum Given {
+enum Given {
     // 0 to 127
     Number(u8),
     Other,
@@ -32,24 +33,20 @@ fn number(text: &[u8]) -> Given {
 }
 
 // Argument i; one that is missing or longer than a buffer says no number.
-pub(crate) fn argument(i: usize) -> Given {
+fn argument(i: usize) -> Given {
     let mut text = io::buffer();
     let n = os::arg(i, &mut text);
     number(&text[..n])
 }
 
-fn is_number(given: Given) -> bool {
-    match given {
-        Given::Number(_) => true,
-        Given::Other => false,
+// The text is the word.
+fn is_word(text: &[u8], word: &[u8]) -> bool {
+    if text.len() != word.len() {
+        return false;
     }
-}
-
-// Every argument up to below `count` is a number.
-fn are_numbers(count: usize) -> bool {
-    let mut i: usize = 1;
-    while i < count {
-        if !is_number(argument(i)) {
+    let mut i: usize = 0;
+    while i < text.len() && i < word.len() {
+        if text[i] != word[i] {
             return false;
         }
         i += 1;
@@ -57,13 +54,69 @@ fn are_numbers(count: usize) -> bool {
     true
 }
 
-// The arguments are numbers, at least two and an even count of them; `count` counts the program's name too.
-pub(crate) fn are_pairs(count: usize) -> bool {
-    if count < 3 {
-        return false;
+// Argument i is `--remainder`.
+fn is_remainder(i: usize) -> bool {
+    let mut text = io::buffer();
+    let n = os::arg(i, &mut text);
+    is_word(&text[..n], b"--remainder")
+}
+
+// What an argument asks for, a pair of numbers together with the one after it.
+pub(crate) enum Asked {
+    Remainder,
+    // Semitones and cents.
+    Sweep(u8, u8),
+    Nothing,
+}
+
+fn pair(semitones: Given, cents: Given) -> Asked {
+    let Given::Number(s) = semitones else {
+        return Asked::Nothing;
+    };
+    let Given::Number(t) = cents else {
+        return Asked::Nothing;
+    };
+    Asked::Sweep(s, t)
+}
+
+pub(crate) fn asked_at(i: usize) -> Asked
+    requires { ⌜ i + 1 < 2 ^ 64 ⌝ }
+{
+    if is_remainder(i) {
+        return Asked::Remainder;
     }
-    if count % 2 == 0 {
-        return false;
+    pair(argument(i), argument(i + 1))
+}
+
+// The argument behind a pair, of `count`.
+pub(crate) fn after_pair(i: usize, count: usize) -> usize
+    requires { ⌜ i < count ⌝ }
+    ensures { λ r. ⌜ i < r ⌝ }
+{
+    if count - i < 2 {
+        return count;
     }
-    are_numbers(count)
+    i + 2
+}
+
+// Each argument asks for something, and the last for a sweep; `count` counts the program's name too.
+pub(crate) fn are_asked(count: usize) -> bool {
+    let mut is_sweep = false;
+    let mut i: usize = 1;
+    while i < count {
+        match asked_at(i) {
+            Asked::Remainder => {
+                is_sweep = false;
+                i += 1;
+            }
+            Asked::Sweep(_, _) => {
+                is_sweep = true;
+                i = after_pair(i, count);
+            }
+            Asked::Nothing => {
+                return false;
+            }
+        }
+    }
+    is_sweep
 }

@@ -1,79 +1,65 @@
 // Prints, for each sensitivity that its arguments name by semitones and cents, every bend value and its pitch offset in hundredths of a cent.
-// A line has semitones, cents, bend value and offset.
+// A line has semitones, cents, bend value and offset, and for the sensitivities after the word `--remainder` the offset's remainder.
+
 mod arguments;
 
-use arguments::Given;
-use arguments::are_pairs;
-use arguments::argument;
+use arguments::Asked;
+use arguments::after_pair;
+use arguments::are_asked;
+use arguments::asked_at;
 use libc::STDERR_FILENO;
 use libc::STDOUT_FILENO;
 use mpe_pitch::MpeSensitivity;
-use mpe_pitch::pitch_offset;
-use mpe_pitch::unsigned_abs;
+use sweep_text::sweep_line;
 
-fn print_number(n: u64) {
-    io::print_decimal(STDOUT_FILENO, n);
-    io::write_all(STDOUT_FILENO, b" ");
-}
-
-fn print_offset(z: i32) {
-    if z < 0 {
-        io::write_all(STDOUT_FILENO, b"-");
-    }
-    io::print_decimal(STDOUT_FILENO, unsigned_abs(z) as u64);
-}
-
-// The line of one bend value; false where it cannot be written.
-fn line(sensitivity: MpeSensitivity, value: u16) -> bool {
-    print_number(sensitivity.semitones as u64);
-    print_number(sensitivity.cents as u64);
-    print_number(value as u64);
-    print_offset(pitch_offset(value, sensitivity));
-    io::write_all(STDOUT_FILENO, b"\n")
+// Writes the line of one bend value; false where it cannot be written.
+fn line(sensitivity: MpeSensitivity, value: u16, remainder: bool) -> bool {
+    let text = sweep_line(sensitivity, value, remainder);
+    let from = text.from;
+    let bytes = text.bytes;
+    io::write_all(STDOUT_FILENO, &bytes[from..])
 }
 
 // The lines of a sensitivity, while they can be written.
-fn lines(sensitivity: MpeSensitivity) -> bool {
+fn lines(sensitivity: MpeSensitivity, remainder: bool) -> bool {
     let mut well = true;
     let mut value: u16 = 0;
     while value < 0x4000 && well {
-        well = line(sensitivity, value);
+        well = line(sensitivity, value, remainder);
         value += 1;
     }
     well
 }
 
-// The sweep of the sensitivity that two arguments name.
-fn sweep(semitones: Given, cents: Given) -> bool {
-    let Given::Number(s) = semitones else {
-        return false;
-    };
-    let Given::Number(t) = cents else {
-        return false;
-    };
-    lines(MpeSensitivity {
-        semitones: s,
-        cents: t,
-    })
-}
-
-// A sweep for each pair of the arguments; `count` counts the program's name too.
+// The sweeps that the arguments ask for, while they can be written; those after `--remainder` with the remainder.
 fn sweep_all(count: usize) -> bool {
     let mut well = true;
-    let mut i: usize = 0;
-    while i < count / 2 && well {
-        well = sweep(argument(2 * i + 1), argument(2 * i + 2));
-        i += 1;
+    let mut remainder = false;
+    let mut i: usize = 1;
+    while i < count && well {
+        match asked_at(i) {
+            Asked::Remainder => {
+                remainder = true;
+                i += 1;
+            }
+            Asked::Sweep(semitones, cents) => {
+                well = lines(MpeSensitivity { semitones, cents }, remainder);
+                i = after_pair(i, count);
+            }
+            Asked::Nothing => {
+                return false;
+            }
+        }
     }
     well
 }
 
 fn main() {
     let count = os::arg_count();
-    if !are_pairs(count) {
+    if !are_asked(count) {
         io::write_all(
             STDERR_FILENO,
-            b"sweep: the arguments are pairs of semitones and cents, each 0 to 127\n",
+            b"sweep: the arguments are pairs of semitones and cents, each 0 to 127, and --remainder before those that are to have it\n",
         );
         return;
     }

@@ -6,10 +6,10 @@ use Rattle.sweep.proofs.lines.Statement.{statement}
 use Rattle.sweep.proofs.lines.Tie as tie
 
 abbrev Inv-loop : tie.InvT-loop
-Inv-loop sensitivity well₀ value₀ well value = value ≤ 0x4000
+Inv-loop sensitivity remainder well₀ value₀ well value = value ≤ 0x4000
 
 abbrev μ-loop : tie.MeasureT-loop
-μ-loop sensitivity well₀ value₀ well value = 0x4000 - value
+μ-loop sensitivity remainder well₀ value₀ well value = 0x4000 - value
 
 loop-holds : tie.Need-loop-holds Inv-loop μ-loop
 loop-holds c = search needs

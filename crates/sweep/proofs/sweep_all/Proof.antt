@@ -1,39 +1,24 @@
--- `sweep::sweep_all` is safe and ends: the measure is what is left of the pairs.
+-- `sweep::sweep_all` is safe and ends: the measure is what is left of the arguments.
 -- Assumes nothing.
-use Prim.Native.Nat.{_-_, _/_}
+use Prim.Native.Nat.{_-_}
 use borrow.Author.Needs.{needs}
 use Rattle.sweep.proofs.sweep_all.Statement.{statement}
 use Rattle.sweep.proofs.sweep_all.Tie as tie
 
 abbrev Inv-loop : tie.InvT-loop
-Inv-loop count well₀ i₀ well i = Unit {0}
+Inv-loop count well₀ remainder₀ i₀ well remainder i = Unit {0}
 
 abbrev μ-loop : tie.MeasureT-loop
-μ-loop count well₀ i₀ well i = count / 2 - i
+μ-loop count well₀ remainder₀ i₀ well remainder i = count - i
 
 loop-holds : tie.Need-loop-holds Inv-loop μ-loop
 loop-holds c = search needs
 
-mul-argument : tie.Need-mul-argument Inv-loop μ-loop
-mul-argument c = search needs
+asked-at-requires : tie.Need-asked-at-requires Inv-loop μ-loop
+asked-at-requires c κs = search needs
 
-add-argument : tie.Need-add-argument Inv-loop μ-loop
-add-argument c = search needs
-
-argument-requires : tie.Need-argument-requires Inv-loop μ-loop
-argument-requires c κs = search needs
-
-mul-argument-2 : tie.Need-mul-argument-2 Inv-loop μ-loop
-mul-argument-2 c = search needs
-
-add-argument-2 : tie.Need-add-argument-2 Inv-loop μ-loop
-add-argument-2 c = search needs
-
-argument-requires-2 : tie.Need-argument-requires-2 Inv-loop μ-loop
-argument-requires-2 c κs = search needs
-
-sweep-requires : tie.Need-sweep-requires Inv-loop μ-loop
-sweep-requires c κs = search needs
+enum-told : tie.Need-enum-told Inv-loop μ-loop
+enum-told c = search needs
 
 add-i : tie.Need-add-i Inv-loop μ-loop
 add-i c = search needs
@@ -44,11 +29,32 @@ loop-less c = search needs
 loop-again : tie.Need-loop-again Inv-loop μ-loop
 loop-again c = search needs
 
+enum-known-semitones : tie.Need-enum-known-semitones Inv-loop μ-loop
+enum-known-semitones c = search needs
+
+lines-requires : tie.Need-lines-requires Inv-loop μ-loop
+lines-requires c κs = search needs
+
+after-pair-requires : tie.Need-after-pair-requires Inv-loop μ-loop
+after-pair-requires c κs = search needs
+
+loop-less-2 : tie.Need-loop-less-2 Inv-loop μ-loop
+loop-less-2 c = search needs
+
+loop-again-2 : tie.Need-loop-again-2 Inv-loop μ-loop
+loop-again-2 c = search needs
+
+enum-told-2 : tie.Need-enum-told-2 Inv-loop μ-loop
+enum-told-2 c = search needs
+
 returns : tie.Need-returns Inv-loop μ-loop
 returns c = search needs
 
 returns-2 : tie.Need-returns-2 Inv-loop μ-loop
 returns-2 c = search needs
+
+returns-3 : tie.Need-returns-3 Inv-loop μ-loop
+returns-3 c = search needs
 
 pub sweep-all-spec : {M : Type 1} → statement M
 sweep-all-spec =
@@ -57,15 +63,17 @@ sweep-all-spec =
     Inv-loop
     μ-loop
     loop-holds
-    mul-argument
-    add-argument
-    argument-requires
-    mul-argument-2
-    add-argument-2
-    argument-requires-2
-    sweep-requires
+    asked-at-requires
+    enum-told
     add-i
     loop-less
     loop-again
+    enum-known-semitones
+    lines-requires
+    after-pair-requires
+    loop-less-2
+    loop-again-2
+    enum-told-2
     returns
-    returns-2)
+    returns-2
+    returns-3)

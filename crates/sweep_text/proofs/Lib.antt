@@ -1,0 +1,4 @@
+-- Laws that the proofs cite.
+pub mod Digits
+pub mod Lines
+pub mod Texts

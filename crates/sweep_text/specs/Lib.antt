@@ -1,0 +1,4 @@
+-- Definitions that the contracts cite.
+pub mod Decimal
+pub mod Line
+pub mod Claims
