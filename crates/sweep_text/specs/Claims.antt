@@ -1,8 +1,12 @@
 -- What holds of the text of a line.
-use Prim.Native.Nat.{ℕ, _+_, _-_, _*_, _<_, _≤_}
+use Prim.Native.Nat.{ℕ, suc, _+_, _-_, _*_, _<_, _≤_}
 use mathlib.Core.Path.{_≡_}
 use mathlib.Core.Bool.{Bool, true, false}
-use mathlib.Core.List.{List, [], _∷_, map}
+use mathlib.Core.List.{List, [], _∷_, _++_, map}
+use lib.IntN.{ℤ, pos, negsuc}
+use Rattle.mpe_pitch.specs.declared.MpeSensitivity.{MpeSensitivity}
+use Rattle.mpe_pitch.specs.Pitch.{pitchOffset}
+use Rattle.mpe_pitch.specs.Remainder.{pitchRemainder}
 use Rattle.sweep_text.specs.Line.{sweepLine}
 
 -- the number that digits say, the highest first, after what was said before them
@@ -26,6 +30,37 @@ pub record DigitsRead (n : ℕ) (text : List ℕ) : Type 0 where
   pub said : numberSaid 0 text ≡ n
   pub all-digits : AllDigits text
   pub no-leading-zero : NoLeadingZero text
+
+-- below zero a minus sign stands before the digits
+abbrev pub SignedRead : ℤ → List ℕ → Type 0
+SignedRead (pos n) text = DigitsRead n text
+SignedRead (negsuc n) [] = ⊥
+SignedRead (negsuc n) (c ∷ text) = (c ≡ 0x2D) × DigitsRead (suc n) text
+
+-- a fifth column, behind a space and before the line's end
+pub record FifthRead (z : ℤ) (rest : List ℕ) : Type 0 where
+  pub column : List ℕ
+  pub column-read : SignedRead z column
+  pub rest-is : rest ≡ 0x20 ∷ (column ++ (0x0A ∷ []))
+
+-- what follows the fourth column: a fifth where it is asked for, or the line's end
+abbrev pub RestRead : ℤ → Bool → List ℕ → Type 0
+RestRead remainder true rest = FifthRead remainder rest
+RestRead remainder false rest = rest ≡ 0x0A ∷ []
+
+-- document 02, 2026-04: "semitones, cents, bend, offset, remainder"; each column says its number
+pub record ColumnsRead (s : MpeSensitivity) (value : ℕ) (remainder : Bool) (text : List ℕ) : Type 0 where
+  pub semitones : List ℕ
+  pub cents : List ℕ
+  pub bend : List ℕ
+  pub offset : List ℕ
+  pub rest : List ℕ
+  pub semitones-read : DigitsRead (s .semitones) semitones
+  pub cents-read : DigitsRead (s .cents) cents
+  pub bend-read : DigitsRead value bend
+  pub offset-read : SignedRead (pitchOffset value s) offset
+  pub rest-read : RestRead (pitchRemainder value s) remainder rest
+  pub text-is : text ≡ semitones ++ (0x20 ∷ (cents ++ (0x20 ∷ (bend ++ (0x20 ∷ (offset ++ rest))))))
 
 -- a line that is asked for, and its text
 pub record LineExample : Type 0 where

@@ -1,10 +1,10 @@
 // The text of a sweep's line: semitones, cents, bend value and offset, and the remainder where it is asked for.
 ghost use mathlib.Core.Path.{_≡_};
 ghost use mathlib.Core.List.{_∷_, _++_};
-ghost use Prim.Native.Nat.{ℕ, _+_, _≤_};
+ghost use Prim.Native.Nat.{_+_, _≤_};
 ghost use Rattle.sweep_text.specs.Decimal.{decimal, signedDecimal};
 ghost use Rattle.sweep_text.specs.Line.{textOf, Filled, Room, lineEnd, fifth, sweepLine};
-ghost use Rattle.sweep_text.specs.Claims.{DigitsRead, LinesAsTabled};
+ghost use Rattle.sweep_text.specs.Claims.{ColumnsRead, LinesAsTabled};
 use mpe_pitch::MpeSensitivity;
 use mpe_pitch::pitch_offset_with_remainder;
 use mpe_pitch::unsigned_abs;
@@ -80,7 +80,7 @@ fn line_end(remainder: i32, asked: bool) -> LineText
 pub fn sweep_line(sensitivity: MpeSensitivity, value: u16, remainder: bool) -> LineText
     ensures is { λ r. ⌜ textOf r ≡ sweepLine sensitivity value remainder ⌝ }
     ensures filled { λ r. ⌜ Filled r ⌝ }
-    ensures read { λ _. ⌜ ((n : ℕ) → DigitsRead n (decimal n)) ⌝ }
+    ensures read { λ r. ⌜ ColumnsRead sensitivity value remainder (textOf r) ⌝ }
     ensures table { λ _. ⌜ LinesAsTabled ⌝ }
 {
     let pair = pitch_offset_with_remainder(value, sensitivity);

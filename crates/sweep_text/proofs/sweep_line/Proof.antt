@@ -1,6 +1,6 @@
 -- `sweep_text::sweep_line` meets its contract: the columns, from the last one on.
 -- Assumes nothing.
-use mathlib.Core.Path.{_∙_, ap}
+use mathlib.Core.Path.{_∙_, ap, sym, subst}
 use mathlib.Core.List.{List, _∷_, _++_}
 use Prim.Native.Nat.{ℕ}
 use native.Mathlib.Omega.{arith}
@@ -8,8 +8,9 @@ use Rattle.mpe_pitch.specs.declared.OffsetWithRemainder.{OffsetWithRemainder}
 use Rattle.mpe_pitch.proofs.Offset.{offset-back}
 use Rattle.mpe_pitch.proofs.Remainder.{remainder-back}
 use Rattle.sweep_text.specs.Decimal.{decimal, signedDecimal}
+use Rattle.sweep_text.specs.Claims.{ColumnsRead}
 use Rattle.sweep_text.specs.Line.{fifth}
-use Rattle.sweep_text.proofs.Digits.{digits-read}
+use Rattle.sweep_text.proofs.Columns.{columns-read}
 use Rattle.sweep_text.proofs.Lines.{lines-as-tabled}
 use borrow.Author.Needs.{needs}
 use Rattle.sweep_text.proofs.sweep_line.Statement.{statement}
@@ -63,7 +64,7 @@ returns c =
     let third = c .before .before .before .before .before .before .after-number .ensures .0 ∙ ap (λ (x : List ℕ). decimal (a .value) ++ x) (c .before .before .before .before .before .before .before .after .ensures .0 ∙ ap (λ (x : List ℕ). 0x20 ∷ x) fourth) in
     let second = c .before .before .before .after-number2 .ensures .0 ∙ ap (λ (x : List ℕ). decimal (a .sensitivity .cents) ++ x) (c .before .before .before .before .before .after2 .ensures .0 ∙ ap (λ (x : List ℕ). 0x20 ∷ x) third) in
     let first = c .after-number3 .ensures .0 ∙ ap (λ (x : List ℕ). decimal (a .sensitivity .semitones) ++ x) (c .before .before .after3 .ensures .0 ∙ ap (λ (x : List ℕ). 0x20 ∷ x) second) in
-    (first, (c .after-number3 .ensures .2, (digits-read, lines-as-tabled)))
+    (first, (c .after-number3 .ensures .2, (subst (λ (x : List ℕ). ColumnsRead (a .sensitivity) (a .value) (a .remainder) x) (sym first) (columns-read (a .sensitivity) (a .value) (a .remainder)), lines-as-tabled)))
 
 pub sweep-line-spec : {M : Type 1} → statement M
 sweep-line-spec =
