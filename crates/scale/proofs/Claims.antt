@@ -12,12 +12,12 @@ use borrow.Author.Tests.{eq-eqb, ne-eqb, le-leb, lt-leb, leb-true, leb-false}
 use Rattle.ump.specs.Choice.{if_then_else_}
 use Rattle.ump.specs.Outcome.{given, outOfRange}
 use Rattle.ump.specs.Field.{field}
-use Rattle.ump.proofs.Cases.{by-test}
+use Rattle.ump.proofs.Cases.{by-test, both}
 use Rattle.scale.specs.declared.Scaled.{Scaled}
 use Rattle.scale.specs.Scale.{scaledRead, widens, narrows, repeated, widened, narrowed, zeroExtended, rounded, upscaled, downscaled, zeroUpscaled, zeroDownscaled}
 use Rattle.scale.specs.Claims.{OfValue, Widened, OneWidened, UpscaleKeeps, UpscaleRises, DownscaleReturns, Narrowed, ZeroDownscaleReturns, ZeroExtended, NearestUp, HalfAbove, Rounded}
 use Rattle.scale.specs.Examples.{ScalesAsTabled, scaleTable, scaleAnswer}
-use Rattle.scale.proofs.Range.{both, Ranged, widening, narrowing, narrows-holds}
+use Rattle.scale.proofs.Range.{Ranged, widening, narrowing, narrows-holds}
 use Rattle.scale.proofs.Repeat.{bits, only}
 use Rattle.scale.proofs.Widen.{by-widening, widened-lt, widened-back, widened-rises, zero-extended-lt, upscaled-given}
 

@@ -1,7 +1,7 @@
 -- Widths and values in range, and shifts that lose nothing.
 -- Assumes nothing.
-use mathlib.Core.Path.{_≡_, refl, _∙_, sym, ap}
-use mathlib.Core.Bool.{Bool, true, false, _&&_, true≢false}
+use mathlib.Core.Path.{_≡_, _∙_, sym, ap}
+use mathlib.Core.Bool.{Bool, true, _&&_}
 use Prim.Native.Nat.{ℕ, _+_, _-_, _*_, _/_, _%_, _^_, _<_, _≤_}
 use native.Mathlib.Nat.{one-mul, mul-assoc, mod-eq-of-lt}
 use native.Mathlib.Omega.{arith}
@@ -9,6 +9,7 @@ use lib.Dec.{ltb, leb}
 use lib.Bits.{bitAnd, and-mask}
 use lib.Pow.{pow-add, pow-lt, shl-exact, shl-shr, shr-shr}
 use borrow.Author.Tests.{leb-true, ltb-true, le-leb, lt-ltb}
+use Rattle.ump.proofs.Cases.{both}
 use Rattle.scale.specs.Scale.{widens, narrows}
 
 -- widths from 1 to 32, one of them the lesser, and a value below p
@@ -17,10 +18,6 @@ pub record Ranged (few many p v : ℕ) : Type 0 where
   pub top : many ≤ 32
   pub more : few < many
   pub fits : v < p
-
-pub both : (a b : Bool) → (a && b) ≡ true → (a ≡ true) × (b ≡ true)
-both true b h = (refl, h)
-both false b h = absurd (true≢false (sym h))
 
 abbrev test : ℕ → ℕ → ℕ → ℕ → Bool
 test few many p v = leb 1 few && (leb many 32 && (ltb few many && ltb v p))

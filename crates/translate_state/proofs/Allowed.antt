@@ -9,12 +9,9 @@ use native.Mathlib.Nat.{eq-or-lt-of-le, le-of-suc-le-suc, not-suc-le-zero}
 use native.Mathlib.Omega.{arith}
 use borrow.Author.Tests.{leb-true, le-leb}
 use lib.ListN.{getD}
+use Rattle.ump.proofs.Cases.{both}
 use Rattle.translate_state.specs.declared.ChannelState.{ChannelState}
 use Rattle.translate_state.specs.State.{emptyState, flagsAllowed, stateAllowed, allowedTo}
-
-pub both : (x y : Bool) → x && y ≡ true → (x ≡ true) × (y ≡ true)
-both true y h = (refl, h)
-both false y h = absurd (let z : _≡_ {A = ℕ} 0 1 = cc in omega arith)
 
 pub and-false : (x : Bool) → x && false ≡ false
 and-false true = refl

@@ -7,10 +7,10 @@ use native.Mathlib.Omega.{arith}
 use lib.Bits.{bitAnd, bitOr, bitXor, and-block, and-high}
 use lib.Dec.{ltb, leb, eqb}
 use borrow.Author.Tests.{leb-true, leb-false, eqb-true, eqb-false, ne-eqb, ltb-true}
-use Rattle.ump.proofs.Cases.{by-test}
+use Rattle.ump.proofs.Cases.{by-test, both}
+use Rattle.ump.proofs.Below.{everyBelow, at}
 use Rattle.translate_state.specs.State.{heldAllowed, flagsAllowed}
-use Rattle.translate_state.proofs.Allowed.{both, and-false}
-use Rattle.translate_state.proofs.Flags.{everyBelow, at}
+use Rattle.translate_state.proofs.Allowed.{and-false}
 
 -- a sum is 0 where both of its parts are
 pub sum-zero : (a b : ℕ) → eqb (a + b) 0 ≡ eqb a 0 && eqb b 0

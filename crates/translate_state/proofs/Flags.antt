@@ -1,29 +1,15 @@
 -- Flags that are accepted stay so: each rule is one test that antt computes over the sixteen values below 16, carried to each of them by a law.
 -- Assumes nothing.
 use mathlib.Core.Path.{_≡_, refl}
-use mathlib.Core.Bool.{Bool, true, false, _&&_, _||_, not}
-use mathlib.Core.Logic.{⊎-elim}
-use Prim.Native.Nat.{ℕ, zero, suc, _/_, _%_, _<_}
-use native.Mathlib.Nat.{eq-or-lt-of-le, le-of-suc-le-suc, not-suc-le-zero}
+use mathlib.Core.Bool.{Bool, true, false, _||_, not}
+use Prim.Native.Nat.{ℕ, _/_, _%_, _<_}
 use native.Mathlib.Omega.{arith}
 use lib.Dec.{ltb, eqb}
 use borrow.Author.Tests.{eqb-true}
 use Rattle.ump.specs.Choice.{if_then_else_}
+use Rattle.ump.proofs.Cases.{both}
+use Rattle.ump.proofs.Below.{everyBelow, at}
 use Rattle.translate_state.specs.State.{pendingIn, nullAfterIn, withKind, withPending, withoutPending, withNullAfter, withoutNullAfter, flagsAllowed}
-use Rattle.translate_state.proofs.Allowed.{both}
-
--- a test at every number below n
-abbrev pub everyBelow : (ℕ → Bool) → ℕ → Bool
-everyBelow p zero = true
-everyBelow p (suc n) = everyBelow p n && p n
-
-pub at : (p : ℕ → Bool) (n : ℕ) → everyBelow p n ≡ true → (k : ℕ) → k < n → p k ≡ true
-at p zero e k h = absurd (not-suc-le-zero h)
-at p (suc n) e k h =
-    ⊎-elim
-    (λ (i : k ≡ n). rw i (both (everyBelow p n) (p n) e .1))
-    (λ (b : k < n). at p n (both (everyBelow p n) (p n) e .0) k b)
-    (eq-or-lt-of-le (le-of-suc-le-suc h))
 
 either : (x y z : Bool) → x || (y || z) ≡ true → {P : Type 0} → (x ≡ true → P) → (y ≡ true → P) → (z ≡ true → P) → P
 either true y z h f g k = f refl

@@ -1,7 +1,7 @@
 -- The word of five parts: each part is read back, the word has the form of a message, and a word of that form is the word of its parts.
 -- Assumes nothing.
-use mathlib.Core.Path.{_≡_, refl, sym, _∙_}
-use mathlib.Core.Bool.{Bool, true, false, _&&_}
+use mathlib.Core.Path.{_≡_, sym, _∙_}
+use mathlib.Core.Bool.{true}
 use Prim.Native.Nat.{ℕ, _+_, _*_, _/_, _%_, _^_, _<_, _≤_}
 use native.Mathlib.Nat.{div-add-mod', zero-add, div-one, mod-eq-of-lt}
 use native.Mathlib.Omega.{arith}
@@ -9,7 +9,7 @@ use lib.Pow.{mod-pow-add}
 use borrow.Author.Tests.{eqb-true, le-leb, eq-eqb}
 use Rattle.ump.specs.Field.{field}
 use Rattle.ump.specs.Word.{opcodeOf, channelOf, firstOf, secondOf, bendOf, oneData, formOf, wordForm, wordOf}
-use Rattle.ump.proofs.Cases.{by-test}
+use Rattle.ump.proofs.Cases.{by-test, both}
 use Rattle.ump.proofs.Cut.{read-laid, read-below}
 
 -- v stands at bit k, n bits wide, between what is above it and what is below
@@ -64,10 +64,6 @@ module _ (g o ch a b : ℕ) (fit : PartsFit g o ch a b) where
   form-of-word l h z =
       rw (type-of-word, bit-15-of-word, bit-7-of-word, opcode-of-word, second-of-word, le-leb 0x8 o l, le-leb o 0xE h)
       (by-test (oneData o) (λ e. rw e (eq-eqb b 0 (z e))) (λ e. rw e))
-
-both : (x y : Bool) → x && y ≡ true → (x ≡ true) × (y ≡ true)
-both true y h = (refl, h)
-both false y h = absurd (let z : _≡_ {A = ℕ} 0 1 = cc in omega arith)
 
 -- a word of 32 bits, by its fields
 by-fields : (w : ℕ) → w < 2 ^ 32
