@@ -3,3 +3,4 @@ pub mod Legal
 pub mod Roles
 pub mod Mcm
 pub mod Occupied
+pub mod Entries

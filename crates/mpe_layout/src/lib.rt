@@ -1,8 +1,10 @@
 // MPE zones, roles and layouts (mpe.rs).
 ghost use mathlib.Core.Path.{_≡_};
+ghost use mathlib.Core.Bool.{true};
 ghost use Prim.Native.Nat.{_<_};
 ghost use Rattle.ump.specs.Outcome.{given};
 ghost use Rattle.mpe_layout.specs.Layout.{legalCounts, noZones, defaultLayout, legal, ofLegal, membersOf, otherZone, managerOf, active, placeOf, roleAt, roleOf, lowestOrNone, leftBeside, layoutFor, withMcm, newLayout, mcmLayout, roleGiven, layoutMade, membersFound, roleFound, activityFound, lowestFound};
+ghost use Rattle.mpe_layout.specs.Sheet.{placeNamed, HoldsPlaces};
 ghost use Rattle.mpe_layout.specs.declared.ZonePlace.the-variants.{Outside};
 
 // One of the two zones (M1-100 2.2.1).
@@ -49,7 +51,63 @@ enum ZonePlace {
     AsMember,
 }
 
-// The place at a distance from the manager of a zone with so many members.
+// The entries of the sheet: in no zone, the zone's manager, a member.
+const N: u8 = 0;
+
+const G: u8 = 1;
+
+const M: u8 = 2;
+
+// The sheet of places in a zone, as a bench sheet has it: a row for each member count, a column for each distance from the manager.
+const SHEET: [[u8; 16]; 16] = [
+    // 0  1  2  3  4  5  6  7  8  9 10 11 12 13 14 15
+    [N, N, N, N, N, N, N, N, N, N, N, N, N, N, N, N], // 0
+    [G, M, N, N, N, N, N, N, N, N, N, N, N, N, N, N], // 1
+    [G, M, M, N, N, N, N, N, N, N, N, N, N, N, N, N], // 2
+    [G, M, M, M, N, N, N, N, N, N, N, N, N, N, N, N], // 3
+    [G, M, M, M, M, N, N, N, N, N, N, N, N, N, N, N], // 4
+    [G, M, M, M, M, M, N, N, N, N, N, N, N, N, N, N], // 5
+    [G, M, M, M, M, M, M, N, N, N, N, N, N, N, N, N], // 6
+    [G, M, M, M, M, M, M, M, N, N, N, N, N, N, N, N], // 7
+    [G, M, M, M, M, M, M, M, M, N, N, N, N, N, N, N], // 8
+    [G, M, M, M, M, M, M, M, M, M, N, N, N, N, N, N], // 9
+    [G, M, M, M, M, M, M, M, M, M, M, N, N, N, N, N], // 10
+    [G, M, M, M, M, M, M, M, M, M, M, M, N, N, N, N], // 11
+    [G, M, M, M, M, M, M, M, M, M, M, M, M, N, N, N], // 12
+    [G, M, M, M, M, M, M, M, M, M, M, M, M, M, N, N], // 13
+    [G, M, M, M, M, M, M, M, M, M, M, M, M, M, M, N], // 14
+    [G, M, M, M, M, M, M, M, M, M, M, M, M, M, M, M], // 15
+];
+
+// `SHEET` by a call.
+fn sheet() -> [[u8; 16]; 16]
+    ensures { λ r. ⌜ HoldsPlaces r ⌝ }
+{
+    SHEET
+}
+
+// The place that an entry names.
+fn place_named(entry: u8) -> ZonePlace
+    ensures { λ r. ⌜ r ≡ placeNamed entry ⌝ }
+{
+    match entry {
+        G => ZonePlace::AsManager,
+        M => ZonePlace::AsMember,
+        _ => ZonePlace::Outside,
+    }
+}
+
+// The place at a distance from the manager of a zone with so many members, from the sheet.
+fn place_listed(members: u8, distance: u8) -> ZonePlace
+    requires { ⌜ (members < 16) × (distance < 16) ⌝ }
+    ensures { λ r. ⌜ r ≡ placeOf members distance ⌝ }
+{
+    let sheet = sheet();
+    let row = sheet[members as usize];
+    place_named(row[distance as usize])
+}
+
+// The same place by comparisons.
 fn place(members: u8, distance: u8) -> ZonePlace
     ensures { λ r. ⌜ r ≡ placeOf members distance ⌝ }
 {
@@ -73,6 +131,17 @@ fn upper_role(upper: ZonePlace) -> MpeRole
         ZonePlace::AsManager => MpeRole::Manager(MpeZone::Upper),
         ZonePlace::AsMember => MpeRole::Member(MpeZone::Upper),
         ZonePlace::Outside => MpeRole::NoZone,
+    }
+}
+
+// The role by the places in Lower and in Upper.
+fn role_at(lower: ZonePlace, upper: ZonePlace) -> MpeRole
+    ensures { λ r. ⌜ r ≡ roleAt lower upper ⌝ }
+{
+    match lower {
+        ZonePlace::AsManager => MpeRole::Manager(MpeZone::Lower),
+        ZonePlace::AsMember => MpeRole::Member(MpeZone::Lower),
+        ZonePlace::Outside => upper_role(upper),
     }
 }
 
@@ -258,6 +327,27 @@ impl MpeLayout {
         MadeLayout::OutOfRange
     }
 
+    // The role from the sheet: Lower counts its channels from 0 up, Upper from 15 down.
+    fn role_listed(self, channel: u8) -> MpeRole
+        requires { ⌜ (legal self ≡ true) × (channel < 16) ⌝ }
+        ensures { λ r. ⌜ r ≡ roleOf self channel ⌝ }
+    {
+        role_at(
+            place_listed(self.lower, channel),
+            place_listed(self.upper, 15 - channel),
+        )
+    }
+
+    // The role of a channel, as the sheet lists it.
+    pub fn role(self, channel: u8) -> FoundRole
+        ensures { λ r. ⌜ roleFound r ≡ roleGiven self channel ⌝ }
+    {
+        if self.is_layout() {
+            return FoundRole::Role(self.role_listed(channel % 16));
+        }
+        FoundRole::OutOfRange
+    }
+
     fn role_in(self, channel: u8) -> MpeRole
         requires { ⌜ channel < 16 ⌝ }
         ensures { λ r. ⌜ r ≡ roleOf self channel ⌝ }
@@ -270,8 +360,8 @@ impl MpeLayout {
         }
     }
 
-    // The role of a channel.
-    pub fn role(self, channel: u8) -> FoundRole
+    // The same by comparisons, for the byte calls: each message asks for a role, and there the sheet takes twice the time (docs/BENCHMARKS.md).
+    pub fn role_by_count(self, channel: u8) -> FoundRole
         ensures { λ r. ⌜ roleFound r ≡ roleGiven self channel ⌝ }
     {
         if self.is_layout() {
