@@ -45,6 +45,7 @@ pub fn trace(name: &str) -> Option<()> {
         "constructors" => constructors(&mut items),
         "words" => words(&mut items),
         "announcements" => announcements(&mut items),
+        "roles" => roles(&mut items),
         "classes" => classes(&mut items),
         "sensitivities" => sensitivities(&mut items),
         "settings" => settings(&mut items),
@@ -142,6 +143,39 @@ fn announcements(items: &mut Items) {
                 items.put(&[0x41, 0x20, status, 0x06, count, 1, 0, 0, 6, 0, count]);
                 items.put(&[0x43]);
             }
+        }
+    }
+}
+
+/// Every channel of every legal layout: its role, for each number that is taken modulo 16; what a
+/// receiver makes of messages on it, in either mode; the replies of the three byte calls to a note, and
+/// the channel's offset.
+fn roles(items: &mut Items) {
+    for [lower, upper] in pairs(15).filter(|layout| is_legal(*layout)) {
+        for channel in 0..=255 {
+            items.put(&[0x12, lower, upper, channel]);
+        }
+        items.put(&[0x40]);
+        items.put(&[0x42, lower, upper]);
+        for mode in [127, 126] {
+            for lowest in [1, 15 - upper.min(14)] {
+                items.put(&[0x41, 0x20, 0xB0 | lowest, mode, 0, 0, 0, 0, 0, 0, 0]);
+            }
+            for channel in 0..16 {
+                for [opcode, first] in [[0x90, 60], [0xA0, 60], [0xB0, 0], [0xB0, 7], [0xE0, 0]] {
+                    items.put(&[0x41, 0x20, opcode | channel, first, 64, 0, 0, 0, 0, 0, 0]);
+                }
+            }
+        }
+        items.put(&[0x00]);
+        items.put(&[0x03, lower, upper]);
+        for channel in 0..16 {
+            for call in [0x01, 0x02, 0x08] {
+                for byte in [0x90 | channel, 60, 64] {
+                    items.put(&[call, byte]);
+                }
+            }
+            items.put(&[0x09, channel]);
         }
     }
 }

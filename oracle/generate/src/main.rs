@@ -77,7 +77,7 @@ const USAGE: &str = "usage: generate SEED COUNT [KIND..]
        generate --triples SEED COUNT
 KIND: end layout ump pitch apply parameters receiver sender allocator restatement translate scale
       (by default all of these) lower_notes
-NAME: layouts packets constructors words announcements classes sensitivities settings pitch
+NAME: layouts packets constructors words announcements roles classes sensitivities settings pitch
       scaling narrowing translations records ties";
 
 /// The kinds named, each as often as it is to be chosen; none for a name that is no kind.
