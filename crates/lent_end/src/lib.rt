@@ -181,7 +181,7 @@ fn event_reply(receiver: MpeReceiver, word: u32) -> Reply
     ensures { λ r. ⌜ r ≡ eventReply receiver word ⌝ }
 {
     let layout = receiver.layout();
-    let found = layout.role_by_count(channel(word));
+    let found = layout.role_compared(channel(word));
     match found {
         FoundRole::Role(role) => Reply::Message(word, event_by_role(receiver, role, word)),
         FoundRole::OutOfRange => Reply::Message(word, MpeEvent::NoZone),

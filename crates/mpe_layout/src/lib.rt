@@ -51,16 +51,21 @@ enum ZonePlace {
     AsMember,
 }
 
-// The entries of the sheet: in no zone, the zone's manager, a member.
+// An entry of the sheet: in no zone.
 const N: u8 = 0;
 
+// The zone's manager.
 const G: u8 = 1;
 
+// A member.
 const M: u8 = 2;
 
 // The sheet of places in a zone, as a bench sheet has it: a row for each member count, a column for each distance from the manager.
+// N: in no zone; G: the manager; M: a member.
+//
+//   distance
+//   0  1  2  3  4  5  6  7  8  9 10 11 12 13 14 15      members
 const SHEET: [[u8; 16]; 16] = [
-    // 0  1  2  3  4  5  6  7  8  9 10 11 12 13 14 15
     [N, N, N, N, N, N, N, N, N, N, N, N, N, N, N, N], // 0
     [G, M, N, N, N, N, N, N, N, N, N, N, N, N, N, N], // 1
     [G, M, M, N, N, N, N, N, N, N, N, N, N, N, N, N], // 2
@@ -90,11 +95,13 @@ fn sheet() -> [[u8; 16]; 16]
 fn place_named(entry: u8) -> ZonePlace
     ensures { λ r. ⌜ r ≡ placeNamed entry ⌝ }
 {
-    match entry {
-        G => ZonePlace::AsManager,
-        M => ZonePlace::AsMember,
-        _ => ZonePlace::Outside,
+    if entry == G {
+        return ZonePlace::AsManager;
     }
+    if entry == M {
+        return ZonePlace::AsMember;
+    }
+    ZonePlace::Outside
 }
 
 // The place at a distance from the manager of a zone with so many members, from the sheet.
@@ -108,7 +115,7 @@ fn place_listed(members: u8, distance: u8) -> ZonePlace
 }
 
 // The same place by comparisons.
-fn place(members: u8, distance: u8) -> ZonePlace
+fn place_compared(members: u8, distance: u8) -> ZonePlace
     ensures { λ r. ⌜ r ≡ placeOf members distance ⌝ }
 {
     if members == 0 {
@@ -225,7 +232,7 @@ pub enum Members {
     OutOfRange,
 }
 
-// What `role` answers.
+// What `role` and `role_compared` answer.
 pub enum FoundRole {
     Role(MpeRole),
     OutOfRange,
@@ -348,20 +355,22 @@ impl MpeLayout {
         FoundRole::OutOfRange
     }
 
+    // The role by comparisons: the place in Upper is looked for only where the channel is outside Lower.
     fn role_in(self, channel: u8) -> MpeRole
         requires { ⌜ channel < 16 ⌝ }
         ensures { λ r. ⌜ r ≡ roleOf self channel ⌝ }
     {
-        let lower = place(self.lower, channel);
+        let lower = place_compared(self.lower, channel);
         match lower {
             ZonePlace::AsManager => MpeRole::Manager(MpeZone::Lower),
             ZonePlace::AsMember => MpeRole::Member(MpeZone::Lower),
-            ZonePlace::Outside => upper_role(place(self.upper, 15 - channel)),
+            ZonePlace::Outside => upper_role(place_compared(self.upper, 15 - channel)),
         }
     }
 
-    // The same by comparisons, for the byte calls: each message asks for a role, and there the sheet takes twice the time (docs/BENCHMARKS.md).
-    pub fn role_by_count(self, channel: u8) -> FoundRole
+    // The same by comparisons, for the byte calls: each message asks for a role, and the sheet in this place would take a byte call to 1.7 to 2.7 times
+    // its instructions (docs/BENCHMARKS.md).
+    pub fn role_compared(self, channel: u8) -> FoundRole
         ensures { λ r. ⌜ roleFound r ≡ roleGiven self channel ⌝ }
     {
         if self.is_layout() {

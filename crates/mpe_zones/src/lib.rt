@@ -194,7 +194,7 @@ impl Zones {
         ensures { λ r. ⌜ r ≡ roleHeld (self .layout) channel ⌝ }
     {
         let layout = self.layout;
-        role_in(layout.role_by_count(channel))
+        role_in(layout.role_compared(channel))
     }
 
     // The zones as they are, and the answer out of range.

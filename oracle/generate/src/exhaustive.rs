@@ -158,7 +158,7 @@ fn roles(items: &mut Items) {
         items.put(&[0x40]);
         items.put(&[0x42, lower, upper]);
         for mode in [127, 126] {
-            for lowest in [1, 15 - upper.min(14)] {
+            for lowest in [1, 15 - upper] {
                 items.put(&[0x41, 0x20, 0xB0 | lowest, mode, 0, 0, 0, 0, 0, 0, 0]);
             }
             for channel in 0..16 {

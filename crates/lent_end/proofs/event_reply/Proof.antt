@@ -23,8 +23,8 @@ layout-requires c κs = search needs
 channel-requires : tie.Need-channel-requires
 channel-requires c κs = search needs
 
-role-by-count-requires : tie.Need-role-by-count-requires
-role-by-count-requires c κs = search needs
+role-compared-requires : tie.Need-role-compared-requires
+role-compared-requires c κs = search needs
 
 enum-known-found : tie.Need-enum-known-found
 enum-known-found c = search needs
@@ -52,7 +52,7 @@ returns c =
     made (a .receiver) (a .word)
     (b .before .before .layout .ensures)
     (b .before .channel .ensures)
-    (b .role-by-count .ensures)
+    (b .role-compared .ensures)
     (rw (k .found .given .1) (c .event-by-role .ensures))
 
 returns-2 : tie.Need-returns-2
@@ -62,7 +62,7 @@ returns-2 c =
     made (a .receiver) (a .word)
     (b .before .before .layout .ensures)
     (b .before .channel .ensures)
-    (b .role-by-count .ensures)
+    (b .role-compared .ensures)
     (rw (c .enum-told .given .1))
 
 pub event-reply-spec : {M : Type 1} → statement M
@@ -71,7 +71,7 @@ event-reply-spec =
     (tie.spec
     layout-requires
     channel-requires
-    role-by-count-requires
+    role-compared-requires
     enum-known-found
     event-by-role-requires
     enum-told

@@ -1,9 +1,9 @@
--- `mpe_layout::place` meets its contract: each return is a case of the place.
+-- `mpe_layout::place_compared` meets its contract: each return is a case of the place.
 -- Assumes nothing.
 use Rattle.ump.proofs.Auto.{auto}
 use Rattle.mpe_layout.specs.Layout.{placeOf}
-use Rattle.mpe_layout.proofs.place.Statement.{statement}
-use Rattle.mpe_layout.proofs.place.Tie as tie
+use Rattle.mpe_layout.proofs.place_compared.Statement.{statement}
+use Rattle.mpe_layout.proofs.place_compared.Tie as tie
 
 returns : tie.Need-returns
 unfolding placeOf
@@ -21,5 +21,5 @@ returns-4 : tie.Need-returns-4
 unfolding placeOf
 returns-4 c = search auto
 
-pub place-spec : {M : Type 1} → statement M
-place-spec = tie.close (tie.spec returns returns-2 returns-3 returns-4)
+pub place-compared-spec : {M : Type 1} → statement M
+place-compared-spec = tie.close (tie.spec returns returns-2 returns-3 returns-4)
