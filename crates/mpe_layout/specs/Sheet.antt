@@ -9,7 +9,7 @@ use Rattle.mpe_layout.specs.Layout.{placeOf}
 use Rattle.mpe_layout.specs.declared.ZonePlace.{ZonePlace}
 use Rattle.mpe_layout.specs.declared.ZonePlace.the-variants.{Outside, AsManager, AsMember}
 
--- what an entry names: 0 none, 1 manager, 2 member
+-- what an entry names: 1 manager, 2 member, any other none
 abbrev pub placeNamed : ℕ → ZonePlace
 placeNamed entry = if eqb entry 1 then AsManager else if eqb entry 2 then AsMember else Outside
 

@@ -51,7 +51,7 @@ enum ZonePlace {
     AsMember,
 }
 
-// An entry of the sheet: in no zone.
+// An entry of the sheet: outside the zone.
 const N: u8 = 0;
 
 // The zone's manager.
@@ -61,7 +61,7 @@ const G: u8 = 1;
 const M: u8 = 2;
 
 // The sheet of places in a zone, as a bench sheet has it: a row for each member count, a column for each distance from the manager.
-// N: in no zone; G: the manager; M: a member.
+// N: outside the zone; G: its manager; M: a member.
 //
 //   distance
 //   0  1  2  3  4  5  6  7  8  9 10 11 12 13 14 15      members
@@ -368,8 +368,8 @@ impl MpeLayout {
         }
     }
 
-    // The same by comparisons, for the byte calls: each message asks for a role, and the sheet in this place would take a byte call to 1.7 to 2.7 times
-    // its instructions (docs/BENCHMARKS.md).
+    // The role of a channel by comparisons, for the byte calls: each message asks for one, and `role` in this place would take the lent call to 1.7 to
+    // 2.7 times its instructions (docs/BENCHMARKS.md).
     pub fn role_compared(self, channel: u8) -> FoundRole
         ensures { λ r. ⌜ roleFound r ≡ roleGiven self channel ⌝ }
     {
