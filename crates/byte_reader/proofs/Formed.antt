@@ -106,21 +106,15 @@ step-fine r b s =
     (λ f. rw f
     (no-word (readerAt b 0x80) Quiet (record { status-sound = inr (ltb-false b 0x80 e, ltb-true b 0xF0 f); first-sound = omega arith }) quiet-no))
     (λ f. rw f
-    (by-test (ltb b 0xF4)
+    (by-test (ltb b 0xF8)
     (λ g. rw g new)
     (λ g. rw g
-    (by-test (ltb b 0xF6)
+    (by-test (eqb b 0xF9)
     (λ h. rw h kept)
     (λ h. rw h
-    (by-test (ltb b 0xF8)
-    (λ i. rw i new)
-    (λ i. rw i
-    (by-test (eqb b 0xF9)
-    (λ j. rw j kept)
-    (λ j. rw j
     (by-test (eqb b 0xFD)
-    (λ k. rw k kept)
-    (λ k. rw k (no-word r (RealTime b) s (realtime-no b)))))))))))))))
+    (λ i. rw i kept)
+    (λ i. rw i (no-word r (RealTime b) s (realtime-no b)))))))))))
 
 pub sound-after : (r : Reader) (l : List ℕ) → Sound r → Sound (readAll r l)
 unfolding readAll

@@ -1,2 +1,3 @@
 -- Laws that proofs of the crates above cite.
 pub mod Formed
+pub mod EachByte

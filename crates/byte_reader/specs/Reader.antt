@@ -1,4 +1,4 @@
--- The byte reader (MIDI 1.0, "Running Status" and Table I; document 01, "A byte arrives").
+-- The byte reader (MIDI 1.0, "Running Status" and Table I; document 01, "A byte arrives"; document 02, 2026-06).
 use Prim.Native.Nat.{ℕ, _/_, _%_, _<_, _≤_}
 use mathlib.Core.Bool.{true}
 use mathlib.Core.Path.{_≡_}
@@ -25,13 +25,11 @@ newReader = readerAt 0 0x80
 abbrev pub reading : Reader → Read → ReadStep
 reading r x = record { reader = r; read = x }
 
--- the classes of bytes
+-- the classes of bytes, with F4 and F5 among F0 to F7 (document 02, 2026-06)
 unfoldable pub classOfByte : ℕ → ByteClass
 classOfByte b =
     if ltb b 0x80 then class.Data else
     if ltb b 0xF0 then class.Status else
-    if ltb b 0xF4 then class.Common else
-    if ltb b 0xF6 then class.Undefined else
     if ltb b 0xF8 then class.Common else
     if eqb b 0xF9 then class.Undefined else
     if eqb b 0xFD then class.Undefined else

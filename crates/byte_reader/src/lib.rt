@@ -1,8 +1,9 @@
-// The byte reader (document 01, "A byte arrives"): running status, and the first data byte of a begun message.
+// The byte reader (document 01, "A byte arrives"; document 02, 2026-06): running status, and the first data byte of a begun message.
 ghost use mathlib.Core.Path.{_≡_};
 ghost use Prim.Native.Nat.{_/_, _%_};
 ghost use Rattle.ump.specs.Word.{wordOf};
 ghost use Rattle.byte_reader.specs.Reader.{newReader, readerAt, reading as readAs, classOfByte, secondData, dataStep, classStep, readStep, WordsFormed};
+ghost use Rattle.byte_reader.specs.Claims.{EachByte};
 
 // What kind of byte it is (MIDI 1.0, Table I).
 pub enum ByteClass {
@@ -10,9 +11,9 @@ pub enum ByteClass {
     Data,
     // 80 to EF
     Status,
-    // F0 to F3, F6, F7
+    // F0 to F7: the port-select bytes F4 and F5 too
     Common,
-    // F4, F5, F9, FD
+    // F9, FD
     Undefined,
     // F8, FA to FC, FE, FF
     RealTime,
@@ -47,12 +48,6 @@ fn class_of(b: u8) -> ByteClass
     }
     if b < 0xF0 {
         return ByteClass::Status;
-    }
-    if b < 0xF4 {
-        return ByteClass::Common;
-    }
-    if b < 0xF6 {
-        return ByteClass::Undefined;
     }
     if b < 0xF8 {
         return ByteClass::Common;
@@ -134,7 +129,8 @@ impl Reader {
 
     // One byte.
     pub fn step(self, b: u8) -> ReadStep
-        ensures { λ r. ⌜ r ≡ readStep self b ⌝ }
+        ensures is { λ r. ⌜ r ≡ readStep self b ⌝ }
+        ensures bytes { λ r. ⌜ EachByte self b r ⌝ }
     {
         self.by_class(class_of(b), b)
     }

@@ -118,11 +118,9 @@ data-below b =
     (λ t e. ltb-true b 0x80 t)
     (λ t. rw t
     (of-both Below (ltb b 0xF0) status
-    (of-both Below (ltb b 0xF4) common
-    (of-both Below (ltb b 0xF6) undefined
     (of-both Below (ltb b 0xF8) common
     (of-both Below (eqb b 0xF9) undefined
-    (of-both Below (eqb b 0xFD) undefined real-time)))))))
+    (of-both Below (eqb b 0xFD) undefined real-time)))))
 
 -- the word that a byte completes, whatever the reader holds
 pub read-fine : (r : Reader) (b : ℕ) → r .status < 2 ^ 8 → Fine (readStep r b .read)

@@ -75,8 +75,6 @@ unfolding classOfByte
 system-class b h =
     let a : 0x80 ≤ b = omega arith in
     let c : 0xF0 ≤ b = omega arith in
-    let d : 0xF4 ≤ b = omega arith in
-    let f : 0xF6 ≤ b = omega arith in
     search auto
 
 system : (e : End) (b : ℕ) (t u : Bool) →

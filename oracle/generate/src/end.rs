@@ -3,9 +3,11 @@
 use crate::Generator;
 
 /// Bytes that may stand anywhere and change nothing.
-const HARMLESS: [u8; 10] = [0xF8, 0xF8, 0xFA, 0xFB, 0xFC, 0xFE, 0xFF, 0xF4, 0xF5, 0xF9];
-/// Bytes that end the running status.
-const BREAKING: [u8; 6] = [0xF0, 0xF1, 0xF2, 0xF3, 0xF6, 0xF7];
+const HARMLESS: [u8; 9] = [0xF8, 0xF8, 0xFA, 0xFB, 0xFC, 0xFE, 0xFF, 0xF9, 0xFD];
+/// Bytes that end the running status: F4 and F5 as often as the others together.
+const BREAKING: [u8; 12] = [
+    0xF0, 0xF1, 0xF2, 0xF3, 0xF6, 0xF7, 0xF4, 0xF4, 0xF4, 0xF5, 0xF5, 0xF5,
+];
 
 /// Gives the end one byte: by value, or lent to either of the two calls.
 pub fn byte(g: &mut Generator, byte: u8) {
@@ -13,7 +15,7 @@ pub fn byte(g: &mut Generator, byte: u8) {
     g.items.put(&[call, byte]);
     match byte {
         0x80..=0xEF => g.status = Some(byte),
-        0xF0..=0xF3 | 0xF6 | 0xF7 => g.status = None,
+        0xF0..=0xF7 => g.status = None,
         _ => {}
     }
 }
@@ -25,11 +27,10 @@ fn between(g: &mut Generator) {
             let harmless = g.random.one_of(&HARMLESS);
             byte(g, harmless);
         }
-        12 => {
+        12..=13 => {
             let breaking = g.random.one_of(&BREAKING);
             byte(g, breaking);
         }
-        13 => byte(g, 0xFD),
         _ => {}
     }
 }
@@ -216,6 +217,28 @@ fn broken_message(g: &mut Generator) {
     }
 }
 
+/// A port-select byte and up to two data bytes, the number of a port: before, in or after a message
+/// and a second one under its running status.
+fn port_select(g: &mut Generator) {
+    let status = 0x80 + g.random.below(0x70) as u8;
+    let place = g.random.below(6);
+    for at in 0..6 {
+        if at == place {
+            let port_select = g.random.one_of(&[0xF4, 0xF5]);
+            byte(g, port_select);
+            for _ in 0..g.random.below(3) {
+                let number = g.random.seven();
+                byte(g, number);
+            }
+        }
+        let value = match at {
+            0 => status,
+            _ => g.random.seven(),
+        };
+        byte(g, value);
+    }
+}
+
 /// Moves one reception switch.
 pub fn switch(g: &mut Generator) {
     let (switch, channel) = (g.random.one_of(&[0x04, 0x05]), g.random.channel_as_given());
@@ -275,8 +298,9 @@ fn changing(g: &mut Generator, choice: u64) {
         34..=37 => reset(g),
         38..=48 => expression(g),
         49..=58 => other_message(g),
-        59..=61 => noise(g),
-        _ => broken_message(g),
+        59..=60 => noise(g),
+        61 => broken_message(g),
+        _ => port_select(g),
     }
 }
 

@@ -1,5 +1,6 @@
 //! Tables small enough to be gone through whole.
 
+use crate::bytes;
 use crate::calls::range;
 use crate::items::Items;
 use crate::midi2;
@@ -46,6 +47,7 @@ pub fn trace(name: &str) -> Option<()> {
         "words" => words(&mut items),
         "announcements" => announcements(&mut items),
         "roles" => roles(&mut items),
+        "bytes" => bytes::table(&mut items),
         "classes" => classes(&mut items),
         "sensitivities" => sensitivities(&mut items),
         "settings" => settings(&mut items),

@@ -7,6 +7,7 @@
 //!   same restatement and future on a new end.
 
 mod allocator;
+mod bytes;
 mod calls;
 mod end;
 mod exhaustive;
@@ -77,8 +78,8 @@ const USAGE: &str = "usage: generate SEED COUNT [KIND..]
        generate --triples SEED COUNT
 KIND: end layout ump pitch apply parameters receiver sender allocator restatement translate scale
       (by default all of these) lower_notes
-NAME: layouts packets constructors words announcements roles classes sensitivities settings pitch
-      scaling narrowing translations records ties";
+NAME: layouts packets constructors words announcements roles bytes classes sensitivities settings
+      pitch scaling narrowing translations records ties";
 
 /// The kinds named, each as often as it is to be chosen; none for a name that is no kind.
 fn chosen(names: &[String]) -> Option<Vec<Phrase>> {

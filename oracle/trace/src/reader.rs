@@ -1,4 +1,5 @@
-//! Ours: the byte reader, from document 01, "A byte arrives". Upstream has no such part.
+//! Ours: the byte reader, from document 01, "A byte arrives", and document 02, 2026-06. Upstream has
+//! no such part.
 
 /// What one byte gives.
 pub enum Heard {
@@ -43,8 +44,9 @@ impl Reader {
                 Heard::Quiet
             }
             0xF8 | 0xFA | 0xFB | 0xFC | 0xFE | 0xFF => Heard::RealTime(byte),
-            0xF4 | 0xF5 | 0xF9 | 0xFD => Heard::Dropped,
-            0xF0..=0xF3 | 0xF6 | 0xF7 => {
+            0xF9 | 0xFD => Heard::Dropped,
+            // F4 and F5 too, since document 02, 2026-06.
+            0xF0..=0xF7 => {
                 self.status = None;
                 self.first = None;
                 Heard::Dropped

@@ -1,4 +1,5 @@
-//! The bench examples of document 01, the cents of document 02, 2026-01, and the form of the input.
+//! The bench examples of document 01, the cents of document 02, 2026-01, its port-select bytes,
+//! 2026-06, and the form of the input.
 
 mod answers;
 
@@ -207,6 +208,24 @@ fn bytes_of_every_class() {
     }
     for byte in [0xF8, 0xFA, 0xFB, 0xFC, 0xFE, 0xFF] {
         assert_eq!(replies[byte], format!("2 {byte}"));
+    }
+}
+
+#[test]
+fn port_select_ends_running_status() {
+    for port_select in ["F4", "F5"] {
+        let replies = |given: &str| answers(&bytes(&given.replace("PP", port_select)));
+        let note = "3 546323520 0";
+        assert_eq!(
+            replies("90 3C 40 PP 01 02"),
+            format!("0\n0\n{note}\n1\n1\n1\n")
+        );
+        assert_eq!(replies("90 3C PP 40 40"), "0\n0\n1\n1\n1\n");
+        assert_eq!(replies("90 PP 90 3C 40"), format!("0\n1\n0\n0\n{note}\n"));
+    }
+    for kept in ["F9", "FD"] {
+        let replies = answers(&bytes(&format!("90 3C {kept} 40")));
+        assert_eq!(replies, "0\n0\n1\n3 546323520 0\n");
     }
 }
 

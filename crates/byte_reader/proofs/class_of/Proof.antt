@@ -29,15 +29,7 @@ returns-6 : tie.Need-returns-6
 unfolding classOfByte
 returns-6 c = search auto
 
-returns-7 : tie.Need-returns-7
-unfolding classOfByte
-returns-7 c = search auto
-
-returns-8 : tie.Need-returns-8
-unfolding classOfByte
-returns-8 c = search auto
-
 pub class-of-spec : {M : Type 1} → statement M
 class-of-spec =
     tie.close
-    (tie.spec returns returns-2 returns-3 returns-4 returns-5 returns-6 returns-7 returns-8)
+    (tie.spec returns returns-2 returns-3 returns-4 returns-5 returns-6)

@@ -29,11 +29,11 @@ made r b ps pt = cc
 
 returns : tie.Need-returns
 returns c =
-    let a = c .before .before .before .args in made (a .reader) (a .b) (c .before .step .ensures) (c .take-read .ensures)
+    let a = c .before .before .before .args in made (a .reader) (a .b) (c .before .step .ensures .0) (c .take-read .ensures)
 
 returns-2 : tie.Need-returns-2
 returns-2 c =
-    let a = c .before .before .before .args in made (a .reader) (a .b) (c .before .step2 .ensures) (c .take-read2 .ensures)
+    let a = c .before .before .before .args in made (a .reader) (a .b) (c .before .step2 .ensures .0) (c .take-read2 .ensures)
 
 pub take-spec : {M : Type 1} → statement M
 take-spec =
