@@ -1,9 +1,9 @@
--- What each byte does to a reader, in document 01's lines: the bytes from F0 to FF by computing each of them.
+-- What each byte does to a reader: the bytes from F0 to FF by computing each of them.
 -- Assumes nothing.
 use Prim.Native.Nat.{ℕ, _/_, _<_, _≤_}
 use mathlib.Core.Path.{_≡_, refl, ap, sym, subst, _∙_}
 use mathlib.Core.Bool.{true, false, _||_, true≢false}
-use mathlib.Core.List.{List}
+use mathlib.Core.List.{List, [], _∷_}
 use mathlib.Core.Logic.{_⊎_, inl, inr, ⊎-elim}
 use native.Mathlib.Omega.{arith}
 use lib.Dec.{ltb, eqb}
@@ -15,7 +15,7 @@ use Rattle.ump.proofs.Below.{of-each}
 use Rattle.byte_reader.specs.declared.Reader.{Reader}
 use Rattle.byte_reader.specs.declared.Read.the-variants.{Quiet, Dropped, RealTime, Message}
 use Rattle.byte_reader.specs.Reader.{readerAt, newReader, reading, classOfByte, messageWord, secondData, dataStep, readStep, readAll}
-use Rattle.byte_reader.specs.Claims.{NoStatus, no-bytes, data-byte, system-byte, DropsData, EachByte}
+use Rattle.byte_reader.specs.Claims.{IsRealTime, IsUndefined, IsNoStatus, NoStatus, DropsData, EachByte}
 
 module _ (r : Reader) where
   by-common : (b : ℕ) → 0xF0 ≤ b → b ≤ 0xF7 → readStep r b ≡ reading newReader Dropped
@@ -25,11 +25,11 @@ module _ (r : Reader) where
       (refl, (refl, (refl, (refl, (refl, (refl, (refl, (refl, tt))))))))
       b h (omega arith)
 
-  by-undefined : (b : ℕ) → (b ≡ 0xF9) ⊎ (b ≡ 0xFD) → readStep r b ≡ reading r Dropped
+  by-undefined : (b : ℕ) → IsUndefined b → readStep r b ≡ reading r Dropped
   unfolding classOfByte
   by-undefined b o = ⊎-elim (λ (e : b ≡ 0xF9). rw e) (λ (e : b ≡ 0xFD). rw e) o
 
-  by-real-time : (b : ℕ) → (b ≡ 0xF8) ⊎ (((0xFA ≤ b) × (b ≤ 0xFC)) ⊎ ((0xFE ≤ b) × (b ≤ 0xFF))) → readStep r b ≡ reading r (RealTime b)
+  by-real-time : (b : ℕ) → IsRealTime b → readStep r b ≡ reading r (RealTime b)
   unfolding classOfByte
   by-real-time b o =
       let Real : ℕ → Type 0 = λ b. readStep r b ≡ reading r (RealTime b) in
@@ -62,15 +62,21 @@ system-left b h g =
     (refl, (refl, (refl, (refl, (refl, (refl, (refl, (refl, (refl, (refl, (refl, (refl, (refl, (refl, (refl, (refl, tt))))))))))))))))
     b h (omega arith)
 
-stays-new : {bytes : List ℕ} → NoStatus bytes → readAll newReader bytes ≡ newReader
+pub new-left : (b : ℕ) → IsNoStatus b → readStep newReader b .reader ≡ newReader
+new-left b n =
+    ⊎-elim
+    (λ (h : b ≤ 0x7F). ap (λ x. x .reader) (without-status newReader b h (omega arith)))
+    (λ (p : (0xF0 ≤ b) × (b ≤ 0xFF)). system-left b (p .0) (p .1))
+    n
+
+stays-new : (bytes : List ℕ) → NoStatus bytes → readAll newReader bytes ≡ newReader
 unfolding readAll
-stays-new no-bytes = refl
-stays-new (data-byte {b} {bytes} h n) = ap (λ x. readAll (x .reader) bytes) (without-status newReader b h (omega arith)) ∙ stays-new n
-stays-new (system-byte {b} {bytes} h g n) = ap (λ r. readAll r bytes) (system-left b h g) ∙ stays-new n
+stays-new [] n = refl
+stays-new (b ∷ bytes) n = ap (λ r. readAll r bytes) (new-left b (n .0)) ∙ stays-new bytes (n .1)
 
 new-drops-data : DropsData newReader
 new-drops-data bytes d n h =
-    ap (λ r. readStep r d .read) (stays-new n) ∙ ap (λ x. x .read) (without-status newReader d h (omega arith))
+    ap (λ r. readStep r d .read) (stays-new bytes n) ∙ ap (λ x. x .read) (without-status newReader d h (omega arith))
 
 -- opcodes C and D, and the others, by the status byte
 opcode-one : (s : ℕ) → oneData (s / 16) ≡ true → (0xC0 ≤ s) × (s < 0xE0)

@@ -10,11 +10,22 @@ use Rattle.byte_reader.specs.declared.Read.the-variants.{Quiet, Dropped,
 use Rattle.byte_reader.specs.declared.ReadStep.{ReadStep}
 use Rattle.byte_reader.specs.Reader.{readerAt, newReader, reading, messageWord, readStep, readAll}
 
+-- F8, FA, FB, FC, FE, FF
+abbrev pub IsRealTime : ℕ → Type 0
+IsRealTime b = (b ≡ 0xF8) ⊎ (((0xFA ≤ b) × (b ≤ 0xFC)) ⊎ ((0xFE ≤ b) × (b ≤ 0xFF)))
+
+-- F9, FD
+abbrev pub IsUndefined : ℕ → Type 0
+IsUndefined b = (b ≡ 0xF9) ⊎ (b ≡ 0xFD)
+
+-- 00 to 7F, F0 to FF
+abbrev pub IsNoStatus : ℕ → Type 0
+IsNoStatus b = (b ≤ 0x7F) ⊎ ((0xF0 ≤ b) × (b ≤ 0xFF))
+
 -- bytes with no status byte, 80 to EF, among them
-pub data NoStatus : List ℕ → Type 0 where
-  no-bytes : NoStatus []
-  data-byte : {b : ℕ} {bytes : List ℕ} → b ≤ 0x7F → NoStatus bytes → NoStatus (b ∷ bytes)
-  system-byte : {b : ℕ} {bytes : List ℕ} → 0xF0 ≤ b → b ≤ 0xFF → NoStatus bytes → NoStatus (b ∷ bytes)
+abbrev pub NoStatus : List ℕ → Type 0
+NoStatus [] = Unit {0}
+NoStatus (b ∷ bytes) = IsNoStatus b × NoStatus bytes
 
 -- a data byte is dropped, now and after any bytes with no status byte among them
 abbrev pub DropsData : Reader → Type 0
@@ -25,9 +36,9 @@ pub record EachByte (r : Reader) (b : ℕ) (x : ReadStep) : Type 0 where
   -- 80–EF: quiet; it becomes the running status, and a begun message is forgotten
   pub status : 0x80 ≤ b → b ≤ 0xEF → x ≡ reading (readerAt b 0x80) Quiet
   -- F8, FA, FB, FC, FE, FF: real-time; the reader does not change, not even for FF
-  pub real-time : (b ≡ 0xF8) ⊎ (((0xFA ≤ b) × (b ≤ 0xFC)) ⊎ ((0xFE ≤ b) × (b ≤ 0xFF))) → x ≡ reading r (RealTime b)
+  pub real-time : IsRealTime b → x ≡ reading r (RealTime b)
   -- F9, FD: dropped; the reader does not change
-  pub undefined : (b ≡ 0xF9) ⊎ (b ≡ 0xFD) → x ≡ reading r Dropped
+  pub undefined : IsUndefined b → x ≡ reading r Dropped
   -- F0–F7: dropped; running status and begun message are forgotten, and data bytes are dropped until a status byte
   pub common : 0xF0 ≤ b → b ≤ 0xF7 → (x ≡ reading newReader Dropped) × DropsData (x .reader)
   -- 00–7F: dropped if there is no running status

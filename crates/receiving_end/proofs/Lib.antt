@@ -6,3 +6,4 @@ pub mod Receive
 pub mod Numbers
 pub mod Always
 pub mod Ratio
+pub mod System

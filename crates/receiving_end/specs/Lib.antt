@@ -3,3 +3,4 @@ pub mod End
 pub mod Lists
 pub mod WellFormed
 pub mod Ratio
+pub mod System

@@ -13,6 +13,7 @@ ghost use Rattle.mpe_receiver.specs.Ratio.{RatioByRole};
 ghost use Rattle.receiving_end.specs.Lists.{setLayout, setRpnReception, setNrpnReception, layout, mode, sensitivity, pitchBend, pressure, brightness, pitchOffset, pitchOffsetWithRemainder, selection, rpnReception, nrpnReception, masked, done, laidOut, counted, ranged, offset, paired, selected, switched, answer, next};
 ghost use Rattle.receiving_end.specs.WellFormed.{AlwaysFormed};
 ghost use Rattle.receiving_end.specs.Ratio.{AlwaysRatio};
+ghost use Rattle.receiving_end.specs.System.{SystemBytes};
 ghost use Rattle.receiving_end.specs.End.{newEnd, parameterAt, withParameter, laidOutEnd, rpnSwitchedAt, nrpnSwitchedAt};
 use byte_reader::Reader;
 use mpe_event::MpeEvent;
@@ -60,6 +61,7 @@ impl End {
         ensures is { λ r. ⌜ r ≡ newEnd ⌝ }
         ensures always { λ _. ⌜ AlwaysFormed ⌝ }
         ensures ratio { λ _. ⌜ AlwaysRatio ⌝ }
+        ensures system { λ _. ⌜ SystemBytes ⌝ }
     {
         End {
             reader: Reader::new(),

@@ -38,6 +38,7 @@ use denote.Triple.Walked.{says, Stays, stay-ref, walkOf, AllGo, goes-ref, Walks,
 use Rattle.receiving_end.specs.End.{newEnd}
 use Rattle.receiving_end.specs.WellFormed.{AlwaysFormed}
 use Rattle.receiving_end.specs.Ratio.{AlwaysRatio}
+use Rattle.receiving_end.specs.System.{SystemBytes}
 use Rattle.receiving_end.specs.declared.end.End.{End}
 use Rattle.receiving_end.proofs.end.End as T
 use Rattle.receiving_end.proofs.end.End.Laws as T′
@@ -60,9 +61,9 @@ module _ {M : Type 1} (𝓤 : URA M) (H : Heap 𝓤) (A : Atoms 𝓤) (mem : Mem
   new-of : (e : End) → ent 𝓤 (ensured 𝓤 H A new.ended (new.clauses 𝓤 H A mem run) tt tt tt e) (fact 𝓤 (e ≡ newEnd))
   new-of e = exE 𝓤 _ (λ ws. via 𝓤 _ (snd∗ 𝓤 (sem 𝓤 H A (lasts new.ended tt tt ws)) (sep 𝓤 (fact 𝓤 (e ≡ newEnd)) always)) (fst∗ 𝓤 (fact 𝓤 (e ≡ newEnd)) always))
     where
-      -- what is said of every list of calls on it
+      -- what is said of every list of calls on it, and of every end
       always : SProp 𝓤
-      always = sep 𝓤 (fact 𝓤 AlwaysFormed) (fact 𝓤 AlwaysRatio)
+      always = sep 𝓤 (fact 𝓤 AlwaysFormed) (sep 𝓤 (fact 𝓤 AlwaysRatio) (fact 𝓤 SystemBytes))
 
 module _ {M : Type 1} (𝓤 : URA M) (H : Heap 𝓤) (A : Atoms 𝓤) (W : Given 𝓤 H A) (at-mem : Memory → SProp 𝓤) (run : Routine → Fun 𝓤) (κ : Lft) (q : Share) (b o : ℕ) (γ : GName) (h : End) where
   abbrev x : RefT End × Unit {0}

@@ -1,5 +1,7 @@
 -- `byte_reader::class_of` meets its contract.
 -- Assumes nothing.
+use Prim.Native.Nat.{_<_}
+use native.Mathlib.Omega.{arith}
 use Rattle.byte_reader.proofs.class_of.Statement.{statement}
 use Rattle.byte_reader.proofs.class_of.Tie as tie
 use Rattle.ump.proofs.Auto.{auto}
@@ -15,7 +17,7 @@ returns-2 c = search auto
 
 returns-3 : tie.Need-returns-3
 unfolding classOfByte
-returns-3 c = search auto
+returns-3 c = let below : c .before .before .before .args .b < 0xF8 = omega (arith, c .if3 .taken) in search auto
 
 returns-4 : tie.Need-returns-4
 unfolding classOfByte

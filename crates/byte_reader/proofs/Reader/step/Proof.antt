@@ -1,4 +1,4 @@
--- `byte_reader::Reader::step` meets its contract: it is the definition, and of that every line of document 01 holds.
+-- `byte_reader::Reader::step` meets its contract: it is the definition, and of that every line of `EachByte` holds.
 -- Assumes nothing.
 use mathlib.Core.Path.{ap, sym, subst, _∙_}
 use borrow.Author.Needs.{needs}
