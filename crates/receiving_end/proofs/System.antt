@@ -1,13 +1,14 @@
 -- What the bytes F0 to FF do to an end, and which bytes are dropped after them.
 -- Assumes nothing.
 use Prim.Native.Nat.{ℕ}
-use mathlib.Core.Path.{_≡_, refl, ap, _∙_}
+use mathlib.Core.Path.{_≡_, refl, ap, subst, _∙_}
 use mathlib.Core.Bool.{Bool, true, false}
 use mathlib.Core.List.{List, [], _∷_, map}
+use mathlib.Core.Logic.{inl, inr}
 use native.Mathlib.Omega.{arith}
 use Rattle.ump.specs.Word.{wordForm, formOf}
+use Rattle.mpe_layout.specs.declared.MpeLayout.{MpeLayout}
 use Rattle.mpe_layout.specs.Layout.{legalCounts, legal, placeOf, roleOf}
-use Rattle.mpe_event.specs.declared.MpeEvent.the-variants.{NoZone}
 use Rattle.mpe_receiver.specs.Receive.{stored, receivedByFields}
 use Rattle.byte_reader.specs.declared.Reader.{Reader}
 use Rattle.byte_reader.specs.declared.Read.{Read}
@@ -20,7 +21,7 @@ use Rattle.receiving_end.specs.declared.end.End.{End}
 use Rattle.receiving_end.specs.declared.end.Reply.the-variants.{Quiet, Dropped, RealTime, Message}
 use Rattle.receiving_end.specs.End.{newEnd, messageAt, answerStep, stepOf, stepReply, stepEnd}
 use Rattle.receiving_end.specs.Lists.{Call, byteByValue, byteLent, setLayout, setRpnReception, setNrpnReception, layout, mode, sensitivity, pitchBend, pressure, brightness, pitchOffset, pitchOffsetWithRemainder, selection, rpnReception, nrpnReception, replied, answer, next, after, answers}
-use Rattle.receiving_end.specs.System.{byteCall, NoStatusGiven, EndDropsData, SystemBytes}
+use Rattle.receiving_end.specs.System.{byteCall, NoStatusGiven, EndDropsData, portBytes, portReplies, callsBetween, SystemBytes}
 
 -- both byte calls
 answer-is : (e : End) (lent : Bool) (b : ℕ) → answer e (byteCall lent b) ≡ replied (stepReply e b)
@@ -85,10 +86,29 @@ drops-data e r calls lent d n h =
     answer-by f lent d (reading (f .reader) read.Dropped) (each-byte (f .reader) d .no-status h (rw new (omega arith)))
 
 -- by computation
-port-selected : answers newEnd (map byteByValue (0x90 ∷ 0x3C ∷ 0x40 ∷ 0xF5 ∷ 0x01 ∷ 0x02 ∷ []))
-    ≡ map replied (Quiet ∷ Quiet ∷ Message 0x20903C40 NoZone ∷ Dropped ∷ Dropped ∷ Dropped ∷ [])
+port-selected : map (λ bytes. answers newEnd (map byteByValue bytes)) portBytes ≡ map (map replied) portReplies
 unfolding wordForm formOf legalCounts legal roleOf placeOf receivedByFields stored classOfByte dataStep messageAt stepOf after answers
 port-selected = refl
+
+-- what a call gives: its own byte, or none
+by-value-gives : (a : ℕ) → IsNoStatus a → (lent : Bool) (b : ℕ) → byteByValue a ≡ byteCall lent b → IsNoStatus b
+by-value-gives a n true b e = let z : _≡_ {A = ℕ} 0 1 = cc in absurd (omega arith)
+by-value-gives a n false b e = let p : a ≡ b = cc in subst IsNoStatus p n
+
+lent-gives : (a : ℕ) → IsNoStatus a → (lent : Bool) (b : ℕ) → byteLent a ≡ byteCall lent b → IsNoStatus b
+lent-gives a n true b e = let p : a ≡ b = cc in subst IsNoStatus p n
+lent-gives a n false b e = let z : _≡_ {A = ℕ} 0 1 = cc in absurd (omega arith)
+
+layout-gives : (l : MpeLayout) (lent : Bool) (b : ℕ) → setLayout l ≡ byteCall lent b → IsNoStatus b
+layout-gives l true b e = let z : _≡_ {A = ℕ} 0 1 = cc in absurd (omega arith)
+layout-gives l false b e = let z : _≡_ {A = ℕ} 0 1 = cc in absurd (omega arith)
+
+no-status-between : (l : MpeLayout) → NoStatusGiven (callsBetween l)
+no-status-between l =
+    let number = by-value-gives 0x01 (inl (omega arith)) in
+    let port-select = lent-gives 0xF5 (inr (omega arith, omega arith)) in
+    let reset = by-value-gives 0xFF (inr (omega arith, omega arith)) in
+    (number, (layout-gives l, (port-select, (reset, tt))))
 
 pub system-bytes : SystemBytes
 system-bytes =
@@ -104,4 +124,5 @@ system-bytes =
                 (answer-by e lent b _ p, (left, drops-data (next e (byteCall lent b)) (ap (λ x. x .reader) left)));
           };
       port-select = port-selected;
+      between = no-status-between;
     }

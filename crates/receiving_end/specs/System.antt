@@ -5,11 +5,13 @@ use mathlib.Core.Path.{_≡_}
 use mathlib.Core.List.{List, [], _∷_, map}
 use Rattle.byte_reader.specs.Reader.{newReader}
 use Rattle.byte_reader.specs.Claims.{IsRealTime, IsUndefined, IsNoStatus}
+use Rattle.mpe_layout.specs.declared.MpeLayout.{MpeLayout}
 use Rattle.mpe_event.specs.declared.MpeEvent.the-variants.{NoZone}
 use Rattle.receiving_end.specs.declared.end.End.{End}
+use Rattle.receiving_end.specs.declared.end.Reply.{Reply}
 use Rattle.receiving_end.specs.declared.end.Reply.the-variants.{Quiet, Dropped, RealTime, Message}
 use Rattle.receiving_end.specs.End.{newEnd, withReader}
-use Rattle.receiving_end.specs.Lists.{Call, byteByValue, byteLent, replied, answer, next, after, answers}
+use Rattle.receiving_end.specs.Lists.{Call, byteByValue, byteLent, setLayout, replied, answer, next, after, answers}
 
 -- the byte call, lent or by value
 abbrev pub byteCall : Bool → ℕ → Call
@@ -35,8 +37,23 @@ pub record SystemByte (e : End) (lent : Bool) (b : ℕ) : Type 0 where
   pub common : 0xF0 ≤ b → b ≤ 0xF7
       → (answer e (byteCall lent b) ≡ replied Dropped) × ((next e (byteCall lent b) ≡ withReader e newReader) × EndDropsData (next e (byteCall lent b)))
 
--- so on every end; and a note, F5 and the number of a port leave one note
+-- a note, F5 and the number of a port; a pressure, F4 and the number of a port
+abbrev pub portBytes : List (List ℕ)
+portBytes = (0x90 ∷ 0x3C ∷ 0x40 ∷ 0xF5 ∷ 0x01 ∷ 0x02 ∷ []) ∷ (0xD0 ∷ 0x40 ∷ 0xF4 ∷ 0x01 ∷ []) ∷ []
+
+-- a new end's replies: one message each, and the number is dropped
+abbrev pub portReplies : List (List Reply)
+portReplies =
+    (Quiet ∷ Quiet ∷ Message 0x20903C40 NoZone ∷ Dropped ∷ Dropped ∷ Dropped ∷ [])
+    ∷ (Quiet ∷ Message 0x20D04000 NoZone ∷ Dropped ∷ Dropped ∷ [])
+    ∷ []
+
+-- calls that give the end no status byte
+abbrev pub callsBetween : MpeLayout → List Call
+callsBetween l = byteByValue 0x01 ∷ setLayout l ∷ byteLent 0xF5 ∷ byteByValue 0xFF ∷ []
+
+-- so on every end; of a new end the replies to port-select bytes; and there are calls without a status byte
 pub record SystemBytes : Type 0 where
   pub each : (e : End) (lent : Bool) (b : ℕ) → SystemByte e lent b
-  pub port-select : answers newEnd (map byteByValue (0x90 ∷ 0x3C ∷ 0x40 ∷ 0xF5 ∷ 0x01 ∷ 0x02 ∷ []))
-      ≡ map replied (Quiet ∷ Quiet ∷ Message 0x20903C40 NoZone ∷ Dropped ∷ Dropped ∷ Dropped ∷ [])
+  pub port-select : map (λ bytes. answers newEnd (map byteByValue bytes)) portBytes ≡ map (map replied) portReplies
+  pub between : (l : MpeLayout) → NoStatusGiven (callsBetween l)
