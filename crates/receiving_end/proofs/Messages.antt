@@ -4,39 +4,19 @@ use Prim.Native.Nat.{ℕ, _<_, _≤_}
 use mathlib.Core.Path.{_≡_, refl, ap, _∙_}
 use mathlib.Core.Bool.{Bool, true, false}
 use mathlib.Core.List.{[], _∷_}
-use mathlib.Core.Logic.{_⊎_, ⊎-elim}
+use mathlib.Core.Logic.{_⊎_}
 use native.Mathlib.Omega.{arith}
 use lib.Dec.{eqb}
 use Rattle.ump.specs.Choice.{if_then_else_}
 use Rattle.ump.proofs.Auto.{auto}
 use Rattle.byte_reader.specs.declared.ByteClass.the-variants as class
-use Rattle.byte_reader.specs.declared.Reader.{Reader}
 use Rattle.byte_reader.specs.declared.Read.the-variants as read
 use Rattle.byte_reader.specs.declared.ReadStep.{ReadStep}
+use Rattle.byte_reader.proofs.EachByte.{begins, of-two, of-one}
 use Rattle.receiving_end.specs.declared.end.End.{End}
-use Rattle.byte_reader.specs.Reader.{readerAt, reading, classOfByte, messageWord, secondData, dataStep, classStep, readStep}
+use Rattle.byte_reader.specs.Reader.{readerAt, reading, classOfByte, messageWord, classStep, readStep}
 use Rattle.receiving_end.specs.End.{withReader, messageStep, answerStep, stepOf, stepEnd}
 use Rattle.receiving_end.specs.Lists.{afterBytes}
-
--- a status byte
-begins : (r : Reader) (s : ℕ) → 0x80 ≤ s → s < 0xF0 → readStep r s ≡ reading (readerAt s 0x80) read.Quiet
-unfolding classOfByte
-begins r s h g = search auto
-
--- a data byte under a running status
-data-read : (s f d : ℕ) → d < 0x80 → readStep (readerAt s f) d ≡ dataStep s f d
-unfolding classOfByte
-data-read s f d h = search auto
-
-of-two : (s f d : ℕ) → (s < 0xC0) ⊎ (0xE0 ≤ s) → 0x80 ≤ s → d < 0x80 → readStep (readerAt s f) d ≡ secondData s f d
-unfolding dataStep
-of-two s f d two h hd =
-    data-read s f d hd
-    ∙ ⊎-elim (λ (l : s < 0xC0). search auto) (λ (g : 0xE0 ≤ s). let m : 0xC0 ≤ s = omega arith in search auto) two
-
-of-one : (s f d : ℕ) → 0xC0 ≤ s → s < 0xE0 → d < 0x80 → readStep (readerAt s f) d ≡ reading (readerAt s f) (read.Message (messageWord s d 0))
-unfolding dataStep
-of-one s f d h g hd = let m : 0x80 ≤ s = omega arith in data-read s f d hd ∙ search auto
 
 -- the end after a byte, by what the reader makes of it
 by-reading : (e : End) (b : ℕ) (x : ReadStep) → readStep (e .reader) b ≡ x → stepEnd e b ≡ answerStep e (x .reader) (x .read) .end

@@ -18,7 +18,6 @@ use Rattle.byte_reader.specs.Reader.{newReader, reading, classOfByte, dataStep,
 use Rattle.byte_reader.specs.Claims.{IsNoStatus}
 use Rattle.byte_reader.proofs.EachByte.{new-left, each-byte}
 use Rattle.receiving_end.specs.declared.end.End.{End}
-use Rattle.receiving_end.specs.declared.end.Reply.the-variants.{Quiet, Dropped, RealTime, Message}
 use Rattle.receiving_end.specs.End.{newEnd, messageAt, answerStep, stepOf, stepReply, stepEnd}
 use Rattle.receiving_end.specs.Lists.{Call, byteByValue, byteLent, setLayout, setRpnReception, setNrpnReception, layout, mode, sensitivity, pitchBend, pressure, brightness, pitchOffset, pitchOffsetWithRemainder, selection, rpnReception, nrpnReception, replied, answer, next, after, answers}
 use Rattle.receiving_end.specs.System.{byteCall, NoStatusGiven, EndDropsData, portBytes, portReplies, callsBetween, SystemBytes}
@@ -119,7 +118,7 @@ system-bytes =
             real-time = λ h. let p = line .real-time h in (answer-by e lent b _ p, next-by e lent b _ p);
             undefined = λ h. let p = line .undefined h in (answer-by e lent b _ p, next-by e lent b _ p);
             common = λ h g.
-                let p = line .common h g .0 in
+                let p = line .common h g in
                 let left = next-by e lent b _ p in
                 (answer-by e lent b _ p, (left, drops-data (next e (byteCall lent b)) (ap (λ x. x .reader) left)));
           };
