@@ -12,7 +12,7 @@ use settings::ZoneSettings;
 use zone_sender::Written;
 
 // The fields of a zone with so many members are inside their limits, or are not read.
-fn zone_allowed(members: u8, zone: ZoneSettings) -> bool
+pub fn zone_allowed(members: u8, zone: ZoneSettings) -> bool
     ensures { λ r. ⌜ r ≡ zoneAllowed members zone ⌝ }
 {
     if members == 0 {
@@ -74,7 +74,7 @@ fn channels_allowed(settings: Settings) -> bool
 }
 
 // The layout is legal, and every field that is read is inside its limits.
-fn is_allowed(settings: Settings) -> bool
+pub fn is_allowed(settings: Settings) -> bool
     ensures { λ r. ⌜ r ≡ allowed settings ⌝ }
 {
     let layout = settings.layout;

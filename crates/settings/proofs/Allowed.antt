@@ -20,12 +20,12 @@ use Rattle.settings.specs.declared.ZoneSettings.{ZoneSettings}
 use Rattle.settings.specs.declared.Settings.{Settings}
 
 -- a test that must hold did, and what follows it
-both : (b x : Bool) → (if b then x else false) ≡ true → (b ≡ true) × (x ≡ true)
+pub both : (b x : Bool) → (if b then x else false) ≡ true → (b ≡ true) × (x ≡ true)
 both true x h = (refl, h)
 both false x h = absurd (let z : _≡_ {A = ℕ} 0 1 = cc in omega arith)
 
 -- a refusing test did not refuse
-passed : (b x : Bool) → (if b then false else x) ≡ true → (b ≡ false) × (x ≡ true)
+pub passed : (b x : Bool) → (if b then false else x) ≡ true → (b ≡ false) × (x ≡ true)
 passed true x h = absurd (let z : _≡_ {A = ℕ} 0 1 = cc in omega arith)
 passed false x h = (refl, h)
 
@@ -67,13 +67,13 @@ channels-limits s (suc n) h k b =
     (eq-or-lt-of-le (le-of-suc-le-suc b))
 
 -- the four parts of the test
-record Parts (s : Settings) : Type 0 where
+pub record Parts (s : Settings) : Type 0 where
   pub is-legal : legal (s .layout) ≡ true
   pub is-lower : zoneAllowed (membersIn s Lower) (s .lower) ≡ true
   pub is-upper : zoneAllowed (membersIn s Upper) (s .upper) ≡ true
   pub is-channels : channelsAllowed s 16 ≡ true
 
-parts : (s : Settings) → allowed s ≡ true → Parts s
+pub parts : (s : Settings) → allowed s ≡ true → Parts s
 unfolding allowed
 parts s h =
     let p = both (legal (s .layout)) _ h in

@@ -43,7 +43,7 @@ zone-passes members z within =
     (λ (four : z .mode ≡ 4). rw four)
     (w .mode-3-or-4)))
 
-channels-pass : (s : Settings) (n : ℕ) → ((k : ℕ) → k < n → (bendOn s k ≤ 0x3FFF) × (pressureOn s k ≤ 127) × (brightnessOn s k ≤ 127)) → channelsAllowed s n ≡ true
+pub channels-pass : (s : Settings) (n : ℕ) → ((k : ℕ) → k < n → (bendOn s k ≤ 0x3FFF) × (pressureOn s k ≤ 127) × (brightnessOn s k ≤ 127)) → channelsAllowed s n ≡ true
 unfolding channelsAllowed channelAllowed
 channels-pass s zero within = refl
 channels-pass s (suc n) within =

@@ -5,6 +5,7 @@ use crate::calls::range;
 use crate::items::Items;
 use crate::midi2;
 use crate::settings::{Channel, Settings, Zone};
+use crate::setup_tables;
 use crate::ties;
 use crate::values::is_legal;
 
@@ -57,6 +58,9 @@ pub fn trace(name: &str) -> Option<()> {
         "translations" => midi2::translations(&mut items),
         "records" => midi2::records_table(&mut items),
         "ties" => ties::table(&mut items),
+        "setup_files" => setup_tables::files(&mut items),
+        "short_setup_files" => setup_tables::short_files(&mut items),
+        "setup_fields" => setup_tables::fields(&mut items),
         _ => return None,
     }
     Some(())
@@ -217,16 +221,11 @@ fn sensitivities(items: &mut Items) {
 }
 
 /// Settings with these sensitivities and modes, and every channel at rest.
-fn at_rest(layout: [u8; 2], zones: [Zone; 2]) -> Settings {
-    let rest = Channel {
-        bend: 0x2000,
-        pressure: 0,
-        brightness: 64,
-    };
+pub fn at_rest(layout: [u8; 2], zones: [Zone; 2]) -> Settings {
     Settings {
         layout,
         zones,
-        channels: [rest; 16],
+        channels: [Channel::REST; 16],
     }
 }
 

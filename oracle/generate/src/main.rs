@@ -19,6 +19,9 @@ mod restatement;
 mod scaling;
 mod sender;
 mod settings;
+mod setup;
+mod setup_file;
+mod setup_tables;
 mod ties;
 mod translation;
 mod triples;
@@ -57,7 +60,7 @@ impl Generator {
 type Phrase = fn(&mut Generator);
 
 /// The kinds, and how often each is chosen beside the others; one with 0 only where it is named.
-const KINDS: [(&str, Phrase, u32); 13] = [
+const KINDS: [(&str, Phrase, u32); 14] = [
     ("end", end::phrase, 6),
     ("layout", calls::layout, 3),
     ("ump", ump::phrase, 3),
@@ -70,6 +73,7 @@ const KINDS: [(&str, Phrase, u32); 13] = [
     ("restatement", restatement::phrase, 1),
     ("translate", translation::phrase, 6),
     ("scale", scaling::phrase, 3),
+    ("setup", setup::phrase, 2),
     ("lower_notes", allocator::lower_notes, 0),
 ];
 
@@ -77,9 +81,9 @@ const USAGE: &str = "usage: generate SEED COUNT [KIND..]
        generate --exhaustive NAME
        generate --triples SEED COUNT
 KIND: end layout ump pitch apply parameters receiver sender allocator restatement translate scale
-      (by default all of these) lower_notes
+      setup (by default all of these) lower_notes
 NAME: layouts packets constructors words announcements roles bytes classes sensitivities settings
-      pitch scaling narrowing translations records ties";
+      pitch scaling narrowing translations records ties setup_files short_setup_files setup_fields";
 
 /// The kinds named, each as often as it is to be chosen; none for a name that is no kind.
 fn chosen(names: &[String]) -> Option<Vec<Phrase>> {

@@ -19,7 +19,7 @@ fn settings(g: &mut Generator) -> (Settings, Vec<u8>) {
 }
 
 /// Puts one field at its limit or past it.
-fn spoil(g: &mut Generator, record: &mut [u8]) {
+pub fn spoil(g: &mut Generator, record: &mut [u8]) {
     let channel = ZONES + 4 * g.random.below(16) as usize;
     let zone = 2 + 5 * g.random.below(2) as usize;
     // Manager or members.

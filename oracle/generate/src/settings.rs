@@ -15,11 +15,29 @@ pub struct Zone {
     pub mode: u8,
 }
 
-#[derive(Clone, Copy)]
+#[derive(Clone, Copy, PartialEq)]
 pub struct Channel {
     pub bend: u16,
     pub pressure: u8,
     pub brightness: u8,
+}
+
+impl Channel {
+    /// A channel at rest.
+    pub const REST: Self = Self {
+        bend: 0x2000,
+        pressure: 0,
+        brightness: 64,
+    };
+
+    /// A channel inside its limits.
+    pub fn random(random: &mut Random) -> Self {
+        Self {
+            bend: random.fourteen(),
+            pressure: random.seven(),
+            brightness: random.seven(),
+        }
+    }
 }
 
 /// A settings record, S of docs/REPLAY.md.
@@ -59,21 +77,13 @@ fn zone(random: &mut Random, members: u8) -> Zone {
     }
 }
 
-fn channel(random: &mut Random) -> Channel {
-    Channel {
-        bend: random.fourteen(),
-        pressure: random.seven(),
-        brightness: random.seven(),
-    }
-}
-
 impl Settings {
     /// Settings with this layout, and every field that is read inside its limits.
     pub fn random(random: &mut Random, layout: [u8; 2]) -> Self {
         Self {
             layout,
             zones: layout.map(|members| zone(random, members)),
-            channels: std::array::from_fn(|_| channel(random)),
+            channels: std::array::from_fn(|_| Channel::random(random)),
         }
     }
 

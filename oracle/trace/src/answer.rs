@@ -2,15 +2,25 @@
 
 use std::fmt::Display;
 
+use crate::restatement::Settings;
 use zmidi_io::mpe::{MpeClass, MpeEvent, MpeReceiver, MpeRole, MpeZone};
 use zmidi_io::{Parameter, ParameterChange, ParameterEvent, ParameterState};
 use zmidi_ump::{Channel, Midi1ChannelVoiceMessage, UmpError};
 
-/// Document 01's table of replies that decline.
+/// Document 01's table of replies that decline, and those of document 02, 2026-07, in the order of
+/// their numbers.
+#[derive(Clone, Copy, PartialEq, Eq, PartialOrd, Ord)]
 pub enum Refusal {
     OutOfRange,
-    TooSmall { needed: usize, got: usize },
+    TooSmall {
+        needed: usize,
+        got: usize,
+    },
     None,
+    /// The file ends before or inside a section, or goes on after the label.
+    WrongLength,
+    /// An entry out of rising order, or a channel at rest.
+    OutOfOrder,
 }
 
 /// An answer line, or the refusal that takes its place.
@@ -37,16 +47,39 @@ pub fn text(answer: Answer) -> String {
         Err(Refusal::OutOfRange) => "!1".into(),
         Err(Refusal::TooSmall { needed, got }) => format!("!2 {needed} {got}"),
         Err(Refusal::None) => "!3".into(),
+        Err(Refusal::WrongLength) => "!4".into(),
+        Err(Refusal::OutOfOrder) => "!5".into(),
     }
 }
 
 /// An answer or a refusal, then the whole buffer.
 pub fn with_buffer<T: Display>(answer: Result<usize, Refusal>, buffer: &[T]) -> String {
-    let mut line = text(answer.map(|count| count.to_string())) + " :";
-    for element in buffer {
+    with_elements(text(answer.map(|count| count.to_string())), buffer)
+}
+
+/// A line, then a colon and each element.
+fn with_elements<T: Display>(line: String, elements: &[T]) -> String {
+    let mut line = line + " :";
+    for element in elements {
         line += &format!(" {element}");
     }
     line
+}
+
+/// The settings of a setup file as in S, then its label.
+pub fn setup((settings, label): (Settings, &[u8])) -> String {
+    let mut set = [settings.lower, settings.upper].map(u16::from).to_vec();
+    for zone in settings.zones {
+        let (manager, member) = (zone.manager, zone.member);
+        let sensitivities = [manager, member].map(|s| [s.semitones, s.cents]);
+        set.extend(sensitivities.concat().into_iter().map(u16::from));
+        set.push(zone.mode.into());
+    }
+    for channel in settings.channels {
+        set.push(channel.bend);
+        set.extend([channel.pressure, channel.brightness].map(u16::from));
+    }
+    with_elements(numbers(set), label)
 }
 
 /// Numbers with one space between.

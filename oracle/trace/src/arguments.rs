@@ -41,6 +41,11 @@ impl Arguments {
         u32::from_be_bytes([self.byte(), self.byte(), self.byte(), self.byte()])
     }
 
+    /// So many bytes as they stand.
+    pub fn bytes(&mut self, count: usize) -> Vec<u8> {
+        self.bytes.by_ref().take(count).collect()
+    }
+
     pub fn flag(&mut self) -> bool {
         self.byte() != 0
     }

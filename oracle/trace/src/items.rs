@@ -8,6 +8,7 @@ use crate::record::Record;
 use crate::remainder;
 use crate::restatement::{as_words, put};
 use crate::sensitivity::{sensitivity_messages, zone_sensitivity_messages};
+use crate::setup;
 use zmidi_io::mpe::{
     self, mpe_class, MpeLayout, MpeMessage, MpeNoteAllocator, MpeReceiver, MpeZone,
 };
@@ -27,6 +28,9 @@ const S: usize = 2 + 2 * 5 + 16 * 4;
 /// What a buffer of words and a buffer of bytes hold before a call.
 const WORD_BEFORE: u32 = 0x2FEF_7F7F;
 const BYTE_BEFORE: u8 = 0xA5;
+
+/// The longest file and the longest buffer of items 90 and 91.
+const SETUP: u16 = 512;
 
 /// The message kinds in upstream's order.
 const KINDS: [MpeMessage; 21] = [
@@ -53,8 +57,10 @@ const KINDS: [MpeMessage; 21] = [
     MpeMessage::System,
 ];
 
-/// The length of an operation's arguments, or none for an unknown operation.
-pub fn length(operation: u8) -> Option<usize> {
+/// The length of an operation's arguments, of which these have been read; up to a count that says
+/// how many follow, if that has not been read. None for an unknown operation, and for a file with a
+/// count above its limit.
+pub fn length(operation: u8, read: &[u8]) -> Option<usize> {
     Some(match operation {
         0x00 | 0x06 | 0x34 | 0x36 | 0x39 | 0x40 | 0x43 | 0x60 | 0x64 | 0x65 | 0x80 => 0,
         0x01 | 0x02 | 0x07..=0x09 | 0x37 | 0x38 | 0x44 | 0x45 | 0x62 | 0x63 | 0x83 => 1,
@@ -72,8 +78,22 @@ pub fn length(operation: u8) -> Option<usize> {
         0x41 => 4 + 1 + P + C,
         0x70 | 0x71 => S + 2,
         0x72 => S,
+        0x90 => match read {
+            [high, low, ..] => 2 + file_length([*high, *low])?,
+            _ => 2,
+        },
+        0x91 => match read.get(S) {
+            Some(label) => S + 1 + usize::from(*label) + 2,
+            None => S + 1,
+        },
         _ => return None,
     })
+}
+
+/// The length of item 90's file, if it is inside its limit.
+fn file_length(bytes: [u8; 2]) -> Option<usize> {
+    let length = u16::from_be_bytes(bytes);
+    (length <= SETUP).then_some(length.into())
 }
 
 /// An operation that takes a buffer's length has it last; the length stays inside its limit.
@@ -82,6 +102,7 @@ pub fn within_limit(operation: u8, bytes: &[u8]) -> bool {
         (0x53, [.., n]) => *n <= 80,
         (0x70, [.., high, low]) => u16::from_be_bytes([*high, *low]) <= 1024,
         (0x71, [.., high, low]) => u16::from_be_bytes([*high, *low]) <= 256,
+        (0x91, [.., high, low]) => u16::from_be_bytes([*high, *low]) <= SETUP,
         _ => true,
     }
 }
@@ -112,6 +133,7 @@ impl States {
             0x53 => zone_sensitivity_item(arguments),
             0x70 => restatement_bytes_item(arguments),
             0x71 => restatement_words_item(arguments),
+            0x91 => setup_written_item(arguments),
             _ => answer::text(self.plain_answer(operation, arguments)),
         }
     }
@@ -129,6 +151,7 @@ impl States {
             0x60..=0x6F => self.allocator_item(operation, arguments),
             0x80..=0x84 => self.record_item(operation, arguments),
             0x86..=0x89 => scale_item(operation, arguments),
+            0x90 => setup_read_item(arguments),
             _ => unreachable!("an unknown operation has no length"),
         }
     }
@@ -452,4 +475,20 @@ fn scale_item(operation: u8, arguments: &mut Arguments) -> Answer {
     };
     let (value, from, to) = (arguments.four(), arguments.byte(), arguments.byte());
     Ok(scaled(value, from, to)?.to_string())
+}
+
+fn setup_read_item(arguments: &mut Arguments) -> Answer {
+    let length = arguments.two();
+    let file = arguments.bytes(length.into());
+    Ok(answer::setup(setup::read(&file)?))
+}
+
+fn setup_written_item(arguments: &mut Arguments) -> String {
+    let settings = arguments.settings();
+    let length = arguments.byte();
+    let label = arguments.bytes(length.into());
+    let mut buffer = vec![BYTE_BEFORE; usize::from(arguments.two())];
+    let file = setup::written(&settings, &label);
+    let answer = file.and_then(|file| put(&file, &mut buffer));
+    with_buffer(answer, &buffer)
 }

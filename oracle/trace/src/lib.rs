@@ -16,6 +16,7 @@ mod record;
 mod remainder;
 mod restatement;
 mod sensitivity;
+mod setup;
 
 use std::io::{self, Read, Write};
 
@@ -37,11 +38,14 @@ fn next_item(pairs: &mut Pairs<impl Read>) -> io::Result<Item> {
         Next::End => return Ok(Item::End),
         Next::Broken => return Ok(Item::Broken),
     };
-    let Some(length) = items::length(operation) else {
-        return Ok(Item::Broken);
-    };
-    let mut bytes = Vec::with_capacity(length);
-    while bytes.len() < length {
+    let mut bytes = Vec::new();
+    loop {
+        // Some items go on for as long as a count in them says.
+        match items::length(operation, &bytes) {
+            Some(length) if bytes.len() < length => {}
+            Some(_) => break,
+            None => return Ok(Item::Broken),
+        }
         match pairs.next()? {
             Next::Pair(byte) => bytes.push(byte),
             Next::End | Next::Broken => return Ok(Item::Broken),

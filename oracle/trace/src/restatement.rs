@@ -53,7 +53,7 @@ impl ChannelSettings {
 
 impl Settings {
     /// The active zones with their settings, Lower first.
-    fn active(&self) -> impl Iterator<Item = (MpeZone, &ZoneSettings)> {
+    pub fn active(&self) -> impl Iterator<Item = (MpeZone, &ZoneSettings)> {
         let [lower, upper] = &self.zones;
         let lower = (self.lower > 0).then_some((MpeZone::Lower, lower));
         let upper = (self.upper > 0).then_some((MpeZone::Upper, upper));
@@ -61,7 +61,7 @@ impl Settings {
     }
 
     /// The layout, if every field that is read is inside its limits.
-    fn legal_layout(&self) -> Result<MpeLayout, UmpError> {
+    pub fn legal_layout(&self) -> Result<MpeLayout, UmpError> {
         let layout = MpeLayout::new(self.lower, self.upper)?;
         let zones = self.active().all(|(_, zone)| zone.is_legal());
         let channels = self.channels.iter().all(ChannelSettings::is_legal);

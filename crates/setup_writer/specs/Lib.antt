@@ -1,0 +1,2 @@
+-- Definitions that the contracts cite: what the writer of a setup file answers.
+pub mod Reply

@@ -1,0 +1,130 @@
+// The writer of the setup file of a course (document 02, 2026-07).
+ghost use mathlib.Core.Path.{_≡_};
+ghost use mathlib.Core.Bool.{true};
+ghost use mathlib.Core.List.{_∷_, flatten};
+ghost use Prim.Native.Nat.{ℕ, _+_, _*_, _<_, _≤_, _^_};
+ghost use lib.ListN.{length, take};
+ghost use lib.Seq.{sets};
+ghost use Rattle.ump.specs.Outcome.{given};
+ghost use Rattle.zone_sender.specs.Zone.{filled, writtenRead};
+ghost use Rattle.settings.specs.Settings.{zoneOf, membersIn, allowed};
+ghost use Rattle.setup_file.specs.Format.{most, zoneNumbered, zoneEntry, channelEntry, entryOf, unlisted, entriesFrom, entriesOf, sectionOf, setupFile, seen};
+ghost use Rattle.setup_file.specs.declared.Section.the-variants.{Channels};
+ghost use Rattle.setup_file.specs.Read.{fileRead};
+ghost use Rattle.setup_writer.specs.Reply.{setupReply, FileSizes};
+use restatement_reply::is_allowed;
+use settings::Settings;
+use settings::ZoneSettings;
+use setup_file::Section;
+use setup_file::label_allowed;
+use zone_sender::Written;
+
+// How many numbers a section has.
+fn most_entries(section: Section) -> u8
+    ensures { λ r. ⌜ r ≡ most section ⌝ }
+{
+    match section {
+        Section::Zones => 2,
+        Section::Channels => 16,
+    }
+}
+
+// The members of zone 0, Lower, or 1, Upper.
+fn members_numbered(settings: Settings, number: u8) -> u8
+    ensures { λ r. ⌜ r ≡ membersIn settings (zoneNumbered number) ⌝ }
+{
+    if number == 0 {
+        return settings.layout.lower;
+    }
+    settings.layout.upper
+}
+
+// What is set for that zone.
+fn zone_numbered(settings: Settings, number: u8) -> ZoneSettings
+    ensures { λ r. ⌜ r ≡ zoneOf settings (zoneNumbered number) ⌝ }
+{
+    if number == 0 {
+        return settings.lower;
+    }
+    settings.upper
+}
+
+// A channel is at rest.
+fn at_rest(bend: u16, pressure: u8, brightness: u8) -> bool
+    ensures { λ r. ⌜ r ≡ unlisted Channels (channelEntry 0 bend pressure brightness) ⌝ }
+{
+    if bend != 0x2000 {
+        return false;
+    }
+    if pressure != 0 {
+        return false;
+    }
+    brightness == 64
+}
+
+// The entry of a number is not listed: a zone without members, a channel at rest.
+fn is_unlisted(section: Section, settings: Settings, number: u8) -> bool
+    requires { ⌜ number < most section ⌝ }
+    ensures { λ r. ⌜ r ≡ unlisted section (entryOf section settings number) ⌝ }
+{
+    match section {
+        Section::Zones => members_numbered(settings, number) == 0,
+        Section::Channels => {
+            let k = number as usize;
+            at_rest(settings.pitch_bend[k], settings.pressure[k], settings.brightness[k])
+        }
+    }
+}
+
+// How many entries a number has: 1 if it is listed.
+fn one_if_listed(section: Section, settings: Settings, number: u8) -> u8
+    requires { ⌜ number < most section ⌝ }
+    ensures { λ r. ⌜ r ≡ length (entriesFrom section settings number 1) ⌝ }
+{
+    if is_unlisted(section, settings, number) {
+        return 0;
+    }
+    1
+}
+
+// How many entries a section has.
+fn entry_count(section: Section, settings: Settings) -> u8
+    ensures { λ r. ⌜ r ≡ length (entriesOf section settings) ⌝ }
+{
+    let most = most_entries(section);
+    let mut count: u8 = 0;
+    let mut k: u8 = 0;
+    while k < most {
+        count += one_if_listed(section, settings, k);
+        k += 1;
+    }
+    count
+}
+
+// Puts the entry of a zone at a place.
+fn put_zone(out: &mut [u8], at: usize, number: u8, members: u8, zone: ZoneSettings)
+    requires { ⌜ at + 7 ≤ length (now out) ⌝ }
+    ensures { λ _. ⌜ now (out .exit) ≡ sets (now (out .entry)) at (zoneEntry number members zone) ⌝ }
+{
+    let manager = zone.manager;
+    let member = zone.member;
+    out[at] = number;
+    out[at + 1] = members;
+    out[at + 2] = manager.semitones;
+    out[at + 3] = manager.cents;
+    out[at + 4] = member.semitones;
+    out[at + 5] = member.cents;
+    out[at + 6] = zone.mode;
+}
+
+// Puts the entry of a channel at a place.
+fn put_channel(out: &mut [u8], at: usize, number: u8, bend: u16, pressure: u8, brightness: u8)
+    requires { ⌜ (at + 5 ≤ length (now out)) × (bend < 2 ^ 14) ⌝ }
+    ensures { λ _. ⌜ now (out .exit) ≡ sets (now (out .entry)) at (channelEntry number bend pressure brightness) ⌝ }
+{
+    out[at] = number;
+    out[at + 1] = (bend / 128) as u8;
+    out[at + 2] = (bend % 128) as u8;
+    out[at + 3] = pressure;
+    out[at + 4] = brightness;
+}
