@@ -1,4 +1,4 @@
 -- Laws that the writers' proofs cite.
-mod Sets
+pub mod Sets
 mod Made
-mod Reply
+pub mod Reply

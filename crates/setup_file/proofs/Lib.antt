@@ -12,3 +12,4 @@ pub mod Places
 pub mod Refusals
 pub mod Onward
 pub mod Sections
+pub mod Examples

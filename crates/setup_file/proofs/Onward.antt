@@ -61,9 +61,11 @@ module _ (section : Section) (least at : ℕ) (l : List ℕ) (taken : given (num
       inside : (n : Section) → entrySize n ≤ length l - at → at + entrySize n ≤ length l
       inside Zones w = omega arith
       inside Channels w = omega arith
+
       first : (n : Section) → entrySize n ≤ length l - at → at < length l
       first Zones w = omega arith
       first Channels w = omega arith
+
       small : (n : Section) → getD l at 0 < most n → getD l at 0 < 16
       small Zones w = omega arith
       small Channels w = w
@@ -120,6 +122,7 @@ module _ (p : Progress) (l : List ℕ) {o : Outcome (Settings × List ℕ)} (e :
     where
       part : Settings × List ℕ
       part = (p .settings, drop (p .at) l)
+
       of-reply : (r : SetupReply) → OneOf (1 ∷ 2 ∷ 3 ∷ []) (tagOf the-type r) → (newSettings ≡ settingsOrNew (replied r part)) × ([] ≡ labelIn (replied r part))
       of-reply setupReply.Read t = absurd (not-read setupReply.Read t refl)
       of-reply setupReply.OutOfRange t = (refl, refl)

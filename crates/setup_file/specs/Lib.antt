@@ -3,3 +3,4 @@ pub mod Format
 pub mod Parts
 pub mod Read
 pub mod Claims
+pub mod Examples

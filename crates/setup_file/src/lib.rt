@@ -6,6 +6,8 @@ ghost use lib.ListN.{length, drop};
 ghost use Rattle.setup_file.specs.Parts.{zoneEntryAt, channelEntryAt};
 ghost use Rattle.setup_file.specs.Format.{most, entrySize, numberIn, zoneEntryWithin, channelEntryWithin, entryWithin, atRest, unlisted, withZone, withChannel, withEntry, printable, labelAllowed};
 ghost use Rattle.setup_file.specs.Read.{entryRead, entriesRead, sectionRead, zonesRead, labelRead, fileRead, replied, progressOf, settingsIn, settingsOrNew, labelIn};
+ghost use Rattle.setup_file.specs.Claims.{OnlyForm, SeenIsShown, Leftmost, CourseShown};
+ghost use Rattle.setup_file.specs.Examples.{FilesAsTabled};
 use mpe_layout::MadeLayout;
 use mpe_layout::MpeLayout;
 use mpe_pitch::MpeSensitivity;
@@ -85,8 +87,14 @@ fn zone_entry_at(file: &[u8], at: usize) -> ZoneEntry
         number: file[at],
         members: file[at + 1],
         zone: ZoneSettings {
-            manager: MpeSensitivity { semitones: file[at + 2], cents: file[at + 3] },
-            member: MpeSensitivity { semitones: file[at + 4], cents: file[at + 5] },
+            manager: MpeSensitivity {
+                semitones: file[at + 2],
+                cents: file[at + 3],
+            },
+            member: MpeSensitivity {
+                semitones: file[at + 4],
+                cents: file[at + 5],
+            },
             mode: file[at + 6],
         },
     }
@@ -258,7 +266,11 @@ fn read_entries(section: Section, file: &[u8], count: u8, from: Progress) -> Pro
     while k < count {
         let reply = entry_read(section, file, at, least);
         let SetupReply::Read = reply else {
-            return Progress { reply, settings, at };
+            return Progress {
+                reply,
+                settings,
+                at,
+            };
         };
         settings = with_entry(section, file, at, settings);
         let size = entry_size(section);
@@ -266,7 +278,11 @@ fn read_entries(section: Section, file: &[u8], count: u8, from: Progress) -> Pro
         at += size;
         k += 1;
     }
-    Progress { reply: SetupReply::Read, settings, at }
+    Progress {
+        reply: SetupReply::Read,
+        settings,
+        at,
+    }
 }
 
 // A section from a place on: its count, and its entries.
@@ -278,13 +294,30 @@ fn read_section(section: Section, file: &[u8], from: Progress) -> Progress
     let at = from.at;
     let settings = from.settings;
     if file.len() == at {
-        return Progress { reply: SetupReply::WrongLength, settings, at };
+        return Progress {
+            reply: SetupReply::WrongLength,
+            settings,
+            at,
+        };
     }
     let count = file[at];
     if most_entries(section) < count {
-        return Progress { reply: SetupReply::OutOfRange, settings, at };
+        return Progress {
+            reply: SetupReply::OutOfRange,
+            settings,
+            at,
+        };
     }
-    read_entries(section, file, count, Progress { reply: SetupReply::Read, settings, at: at + 1 })
+    read_entries(
+        section,
+        file,
+        count,
+        Progress {
+            reply: SetupReply::Read,
+            settings,
+            at: at + 1,
+        },
+    )
 }
 
 // The zones from the front on; their pair is tested behind the section.
@@ -292,7 +325,11 @@ fn read_zones(file: &[u8]) -> Progress
     ensures reading { λ r. ⌜ progressOf r (now (file .entry)) ≡ zonesRead (now (file .entry)) ⌝ }
     ensures inside { λ r. ⌜ r .at ≤ length (now (file .entry)) ⌝ }
 {
-    let new = Progress { reply: SetupReply::Read, settings: Settings::new(), at: 0 };
+    let new = Progress {
+        reply: SetupReply::Read,
+        settings: Settings::new(),
+        at: 0,
+    };
     let zones = read_section(Section::Zones, file, new);
     let reply = zones.reply;
     let SetupReply::Read = reply else {
@@ -301,7 +338,11 @@ fn read_zones(file: &[u8]) -> Progress
     let settings = zones.settings;
     let layout = settings.layout;
     let MadeLayout::Made(made) = MpeLayout::new(layout.lower, layout.upper) else {
-        return Progress { reply: SetupReply::OutOfRange, settings, at: zones.at };
+        return Progress {
+            reply: SetupReply::OutOfRange,
+            settings,
+            at: zones.at,
+        };
     };
     zones
 }
@@ -342,23 +383,47 @@ fn read_label(file: &[u8], from: Progress) -> Progress
     let at = from.at;
     let settings = from.settings;
     if file.len() == at {
-        return Progress { reply: SetupReply::WrongLength, settings, at };
+        return Progress {
+            reply: SetupReply::WrongLength,
+            settings,
+            at,
+        };
     }
     let count = file[at] as usize;
     let left = file.len() - at - 1;
     if 32 < count {
-        return Progress { reply: SetupReply::OutOfRange, settings, at };
+        return Progress {
+            reply: SetupReply::OutOfRange,
+            settings,
+            at,
+        };
     }
     if left < count {
-        return Progress { reply: SetupReply::WrongLength, settings, at };
+        return Progress {
+            reply: SetupReply::WrongLength,
+            settings,
+            at,
+        };
     }
     if !is_printable(&file[at + 1..at + 1 + count]) {
-        return Progress { reply: SetupReply::OutOfRange, settings, at };
+        return Progress {
+            reply: SetupReply::OutOfRange,
+            settings,
+            at,
+        };
     }
     if count < left {
-        return Progress { reply: SetupReply::WrongLength, settings, at };
+        return Progress {
+            reply: SetupReply::WrongLength,
+            settings,
+            at,
+        };
     }
-    Progress { reply: SetupReply::Read, settings, at: at + 1 }
+    Progress {
+        reply: SetupReply::Read,
+        settings,
+        at: at + 1,
+    }
 }
 
 // The whole file; the next byte is then the first of its label.
@@ -379,15 +444,25 @@ fn read_file(file: &[u8]) -> Progress
     read_label(file, channels)
 }
 
-// The settings of a setup file, or why it is refused.
+// The settings of a setup file, or why it is refused. What the other clauses say is of all files: the writer's form is the only one that is taken
+// (`form`); the fields that it says are those that the readings show (`seen`); the leftmost fault decides (`leftmost`); and of this one what a course
+// relies on (`course`). `examples` has some files and their replies.
 pub fn setup_settings(file: &[u8]) -> SetupRead
     ensures reply { λ r. ⌜ replied (r .reply) (r .settings) ≡ settingsIn (fileRead (now (file .entry))) ⌝ }
     ensures settings { λ r. ⌜ r .settings ≡ settingsOrNew (fileRead (now (file .entry))) ⌝ }
+    ensures form { λ _. ⌜ OnlyForm ⌝ }
+    ensures seen { λ _. ⌜ SeenIsShown ⌝ }
+    ensures leftmost { λ _. ⌜ Leftmost ⌝ }
+    ensures course { λ _. ⌜ CourseShown (now (file .entry)) ⌝ }
+    ensures examples { λ _. ⌜ FilesAsTabled ⌝ }
 {
     let read = read_file(file);
     let reply = read.reply;
     let SetupReply::Read = reply else {
-        return SetupRead { reply, settings: Settings::new() };
+        return SetupRead {
+            reply,
+            settings: Settings::new(),
+        };
     };
     let settings = read.settings;
     SetupRead { reply, settings }

@@ -8,8 +8,8 @@ ghost use lib.Seq.{sets};
 ghost use Rattle.ump.specs.Outcome.{given};
 ghost use Rattle.zone_sender.specs.Zone.{filled, writtenRead};
 ghost use Rattle.settings.specs.Settings.{zoneOf, membersIn, allowed};
-ghost use Rattle.setup_file.specs.Format.{most, zoneNumbered, zoneEntry, channelEntry, entryOf, unlisted, entriesFrom, entriesOf, sectionOf, setupFile, seen};
-ghost use Rattle.setup_file.specs.declared.Section.the-variants.{Channels};
+ghost use Rattle.setup_file.specs.Format.{most, entrySize, zoneNumbered, zoneEntry, channelEntry, entryOf, unlisted, entriesFrom, entriesOf, sectionOf, setupFile, seen};
+ghost use Rattle.setup_file.specs.declared.Section.the-variants.{Zones, Channels};
 ghost use Rattle.setup_file.specs.Read.{fileRead};
 ghost use Rattle.setup_writer.specs.Reply.{setupReply, FileSizes};
 use restatement_reply::is_allowed;
@@ -71,7 +71,11 @@ fn is_unlisted(section: Section, settings: Settings, number: u8) -> bool
         Section::Zones => members_numbered(settings, number) == 0,
         Section::Channels => {
             let k = number as usize;
-            at_rest(settings.pitch_bend[k], settings.pressure[k], settings.brightness[k])
+            at_rest(
+                settings.pitch_bend[k],
+                settings.pressure[k],
+                settings.brightness[k],
+            )
         }
     }
 }
@@ -127,4 +131,119 @@ fn put_channel(out: &mut [u8], at: usize, number: u8, bend: u16, pressure: u8, b
     out[at + 2] = (bend % 128) as u8;
     out[at + 3] = pressure;
     out[at + 4] = brightness;
+}
+
+// Puts the entry of a number at a place, and gives the place after it.
+fn put_entry(out: &mut [u8], at: usize, section: Section, settings: Settings, number: u8) -> usize
+    requires { ⌜ (number < most section) × (allowed settings ≡ true) × (at + entrySize section ≤ length (now out)) ⌝ }
+    ensures place { λ r. ⌜ r ≡ at + entrySize section ⌝ }
+    ensures buffer { λ _. ⌜ now (out .exit) ≡ sets (now (out .entry)) at (entryOf section settings number) ⌝ }
+{
+    match section {
+        Section::Zones => {
+            let members = members_numbered(settings, number);
+            let zone = zone_numbered(settings, number);
+            put_zone(out, at, number, members, zone);
+            at + 7
+        }
+        Section::Channels => {
+            let k = number as usize;
+            put_channel(
+                out,
+                at,
+                number,
+                settings.pitch_bend[k],
+                settings.pressure[k],
+                settings.brightness[k],
+            );
+            at + 5
+        }
+    }
+}
+
+// The same if the entry is listed, and else nothing.
+fn put_listed(out: &mut [u8], at: usize, section: Section, settings: Settings, number: u8) -> usize
+    requires { ⌜ (number < most section) × (allowed settings ≡ true) × (at + length (flatten (entriesFrom section settings number 1)) ≤ length (now out)) ⌝ }
+    ensures place { λ r. ⌜ r ≡ at + length (flatten (entriesFrom section settings number 1)) ⌝ }
+    ensures buffer { λ _. ⌜ now (out .exit) ≡ sets (now (out .entry)) at (flatten (entriesFrom section settings number 1)) ⌝ }
+{
+    if is_unlisted(section, settings, number) {
+        return at;
+    }
+    put_entry(out, at, section, settings, number)
+}
+
+// Puts a section at a place, its count and its entries, and gives the place after it.
+fn put_section(out: &mut [u8], at: usize, section: Section, settings: Settings) -> usize
+    requires { ⌜ (allowed settings ≡ true) × (at + length (sectionOf section settings) ≤ length (now out)) ⌝ }
+    ensures place { λ r. ⌜ r ≡ at + length (sectionOf section settings) ⌝ }
+    ensures buffer { λ _. ⌜ now (out .exit) ≡ sets (now (out .entry)) at (sectionOf section settings) ⌝ }
+{
+    let most = most_entries(section);
+    out[at] = entry_count(section, settings);
+    let mut place = at + 1;
+    let mut k: u8 = 0;
+    while k < most {
+        place = put_listed(out, place, section, settings, k);
+        k += 1;
+    }
+    place
+}
+
+// Puts a label at a place, its length and its bytes.
+fn put_label(out: &mut [u8], at: usize, label: &[u8])
+    requires { ⌜ (length (now label) ≤ 32) × (at + length (now label) < length (now out)) ⌝ }
+    ensures { λ _. ⌜ now (out .exit) ≡ sets (now (out .entry)) at (length (now (label .entry)) ∷ now (label .entry)) ⌝ }
+{
+    out[at] = label.len() as u8;
+    let mut k: usize = 0;
+    while k < label.len() {
+        out[at + 1 + k] = label[k];
+        k += 1;
+    }
+}
+
+// How many bytes the file has: three counts, the entries and the label.
+fn file_size(settings: Settings, label: usize) -> usize
+    requires { ⌜ label ≤ 32 ⌝ }
+    ensures { λ r. ⌜ r ≡ 3 + 7 * length (entriesOf Zones settings) + 5 * length (entriesOf Channels settings) + label ⌝ }
+{
+    let zones = entry_count(Section::Zones, settings) as usize;
+    let channels = entry_count(Section::Channels, settings) as usize;
+    3 + 7 * zones + 5 * channels + label
+}
+
+// What the writer answers for a buffer of so many bytes.
+fn setup_reply(settings: Settings, label: &[u8], got: usize) -> Written
+    ensures { λ r. ⌜ writtenRead r ≡ setupReply settings (now (label .entry)) got ⌝ }
+{
+    if !is_allowed(settings) {
+        return Written::OutOfRange;
+    }
+    if !label_allowed(label) {
+        return Written::OutOfRange;
+    }
+    let needed = file_size(settings, label.len());
+    if got < needed {
+        return Written::TooSmall { needed, got };
+    }
+    Written::Count(needed)
+}
+
+// Writes the setup file of these settings and this label to the front of `out`. What `read_back` says is that the reader takes the very bytes written,
+// and gives back the settings in the fields that are read, and the label; `sizes` says how long files are.
+pub fn setup_bytes(settings: Settings, label: &[u8], out: &mut [u8]) -> Written
+    ensures reply { λ r. ⌜ writtenRead r ≡ setupReply settings (now (label .entry)) (length (now (out .entry))) ⌝ }
+    ensures buffer { λ _. ⌜ now (out .exit) ≡ filled (setupReply settings (now (label .entry)) (length (now (out .entry)))) (setupFile settings (now (label .entry))) (now (out .entry)) ⌝ }
+    ensures read_back { λ r. ⌜ ((n : ℕ) → writtenRead r ≡ given n → fileRead (take n (now (out .exit))) ≡ given (seen settings, now (label .entry))) ⌝ }
+    ensures sizes { λ _. ⌜ FileSizes ⌝ }
+{
+    let reply = setup_reply(settings, label, out.len());
+    let Written::Count(n) = reply else {
+        return reply;
+    };
+    let channels = put_section(out, 0, Section::Zones, settings);
+    let end = put_section(out, channels, Section::Channels, settings);
+    put_label(out, end, label);
+    Written::Count(n)
 }

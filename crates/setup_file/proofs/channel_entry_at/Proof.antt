@@ -2,46 +2,34 @@ use Rattle.setup_file.proofs.Places.{channel-entry-here}
 use borrow.Author.Needs.{needs}
 use Rattle.setup_file.proofs.channel_entry_at.Statement.{statement}
 use Rattle.setup_file.proofs.channel_entry_at.Tie as tie
-use Rattle.setup_file.proofs.channel_entry_at.Reads as reads
-use Rattle.setup_file.proofs.channel_entry_at.Lts as lts
 
--- src/lib.rt:109:17
 shared-slice-read-t4 : tie.Need-shared-slice-read-t4
 shared-slice-read-t4 c = search needs
 
--- src/lib.rt:110:19
 add-t5 : tie.Need-add-t5
 add-t5 c = search needs
 
--- src/lib.rt:110:14
 shared-slice-read-t7 : tie.Need-shared-slice-read-t7
 shared-slice-read-t7 c = search needs
 
--- src/lib.rt:111:19
 add-t8 : tie.Need-add-t8
 add-t8 c = search needs
 
--- src/lib.rt:111:14
 shared-slice-read-t10 : tie.Need-shared-slice-read-t10
 shared-slice-read-t10 c = search needs
 
--- src/lib.rt:112:24
 add-t11 : tie.Need-add-t11
 add-t11 c = search needs
 
--- src/lib.rt:112:19
 shared-slice-read-t13 : tie.Need-shared-slice-read-t13
 shared-slice-read-t13 c = search needs
 
--- src/lib.rt:113:26
 add-t14 : tie.Need-add-t14
 add-t14 c = search needs
 
--- src/lib.rt:113:21
 shared-slice-read-t16 : tie.Need-shared-slice-read-t16
 shared-slice-read-t16 c = search needs
 
--- src/lib.rt:104:1
 returns : tie.Need-returns
 returns c = channel-entry-here (c .before .before .before .before .before .args .at) (c .before .before .before .before .before .args .file .now)
 

@@ -2,35 +2,27 @@ use Rattle.ump.proofs.Auto.{auto}
 use Rattle.setup_file.specs.Format.{channelEntryWithin}
 use Rattle.setup_file.proofs.channel_entry_within.Statement.{statement}
 use Rattle.setup_file.proofs.channel_entry_within.Tie as tie
-use Rattle.setup_file.proofs.channel_entry_within.Reads as reads
-use Rattle.setup_file.proofs.channel_entry_within.Lts as lts
 
--- src/lib.rt:138:9
 returns : tie.Need-returns
 unfolding channelEntryWithin
 returns c = search auto
 
--- src/lib.rt:141:9
 returns-2 : tie.Need-returns-2
 unfolding channelEntryWithin
 returns-2 c = search auto
 
--- src/lib.rt:144:9
 returns-3 : tie.Need-returns-3
 unfolding channelEntryWithin
 returns-3 c = search auto
 
--- src/lib.rt:147:9
 returns-4 : tie.Need-returns-4
 unfolding channelEntryWithin
 returns-4 c = search auto
 
--- src/lib.rt:150:9
 returns-5 : tie.Need-returns-5
 unfolding channelEntryWithin
 returns-5 c = search auto
 
--- src/lib.rt:134:1
 returns-6 : tie.Need-returns-6
 unfolding channelEntryWithin
 returns-6 c = search auto

@@ -14,48 +14,36 @@ use Rattle.setup_file.proofs.Refusals.{entry-cut, entry-outside, entry-
 use borrow.Author.Needs.{needs}
 use Rattle.setup_file.proofs.entry_read.Statement.{statement}
 use Rattle.setup_file.proofs.entry_read.Tie as tie
-use Rattle.setup_file.proofs.entry_read.Reads as reads
-use Rattle.setup_file.proofs.entry_read.Lts as lts
-use Rattle.setup_file.proofs.entry_size.Reads as entry-size-reads
-use Rattle.setup_file.proofs.entry_within.Reads as entry-within-reads
-use Rattle.setup_file.proofs.is_unlisted.Reads as is-unlisted-reads
 
 -- a whole entry has its first byte inside the file
 below : (section : Section) (at : ℕ) (l : List ℕ) → entrySize section ≤ length l - at → at < length l
 below Zones at l h = omega arith
 below Channels at l h = omega arith
 
--- src/lib.rt:190:8
 sub-if1 : tie.Need-sub-if1
 sub-if1 c = search needs
 
--- src/lib.rt:190:26
 entry-size-requires : tie.Need-entry-size-requires
 entry-size-requires c κs = search needs
 
--- src/lib.rt:191:9
 returns : tie.Need-returns
 returns c = let a = c .before .before .before .args in
     entry-cut (a .section) (a .least) (a .at) (a .file .now) (rw (c .before .entry-size .ensures) at (c .if1 .taken))
 
--- src/lib.rt:193:9
 entry-within-requires : tie.Need-entry-within-requires
 entry-within-requires c κs = search needs
 
--- src/lib.rt:194:9
 returns-2 : tie.Need-returns-2
 returns-2 c = let e = c .before .before in
     let a = e .before .before .before .args in
     let w : entryWithin (a .section) (drop (a .at) (a .file .now)) ≡ false = sym (c .before .entry-within .ensures) ∙ not-true _ (c .if2 .taken) in
     entry-outside (a .section) (a .least) (a .at) (a .file .now) (rw (e .before .entry-size .ensures) at (e .if1 .left)) w
 
--- src/lib.rt:196:8
 shared-slice-read-if3 : tie.Need-shared-slice-read-if3
 shared-slice-read-if3 c = let e = c .before .before .before in
     let a = e .before .before .before .args in
     below (a .section) (a .at) (a .file .now) (rw (e .before .entry-size .ensures) at (e .if1 .left))
 
--- src/lib.rt:197:9
 returns-3 : tie.Need-returns-3
 returns-3 c = let t = c .before .before in
     let e = t .before .before in
@@ -63,11 +51,9 @@ returns-3 c = let t = c .before .before in
     let w : entryWithin (a .section) (drop (a .at) (a .file .now)) ≡ true = sym (t .before .entry-within .ensures) ∙ not-false _ (t .if2 .left) in
     entry-low (a .section) (a .least) (a .at) (a .file .now) (rw (e .before .entry-size .ensures) at (e .if1 .left)) w (c .if3 .taken)
 
--- src/lib.rt:199:8
 is-unlisted-requires : tie.Need-is-unlisted-requires
 is-unlisted-requires c κs = search needs
 
--- src/lib.rt:200:9
 returns-4 : tie.Need-returns-4
 returns-4 c = let l = c .before .before in
     let t = l .before .before in
@@ -77,7 +63,6 @@ returns-4 c = let l = c .before .before in
     let u : unlisted (a .section) (drop (a .at) (a .file .now)) ≡ true = sym (c .before .is-unlisted .ensures) ∙ c .if4 .taken in
     entry-unlisted (a .section) (a .least) (a .at) (a .file .now) (rw (e .before .entry-size .ensures) at (e .if1 .left)) w (l .if3 .left) u
 
--- src/lib.rt:186:1
 returns-5 : tie.Need-returns-5
 returns-5 c = let l = c .before .before in
     let t = l .before .before in

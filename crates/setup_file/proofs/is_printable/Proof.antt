@@ -9,8 +9,6 @@ use Rattle.setup_file.specs.Format.{printable}
 use Rattle.setup_file.proofs.Sections.{printable-end, printable-low, printable-high, printable-next}
 use Rattle.setup_file.proofs.is_printable.Statement.{statement}
 use Rattle.setup_file.proofs.is_printable.Tie as tie
-use Rattle.setup_file.proofs.is_printable.Reads as reads
-use Rattle.setup_file.proofs.is_printable.Lts as lts
 
 abbrev Inv-loop : tie.InvT-loop
 Inv-loop text k₀ k = (k ≤ length text) × (printable (drop k text) ≡ printable text)
@@ -18,45 +16,36 @@ Inv-loop text k₀ k = (k ≤ length text) × (printable (drop k text) ≡ print
 abbrev μ-loop : tie.MeasureT-loop
 μ-loop text k₀ k = length text - k
 
--- src/lib.rt:311:5
 loop-holds : tie.Need-loop-holds Inv-loop μ-loop
 loop-holds c = (omega arith, refl)
 
--- src/lib.rt:312:12
 shared-slice-read-if1 : tie.Need-shared-slice-read-if1 Inv-loop μ-loop
 shared-slice-read-if1 c = omega arith
 
--- src/lib.rt:313:13
 returns : tie.Need-returns Inv-loop μ-loop
 returns c = let i = c .before .before .before .loop in
     let l = c .before .before .before .before .args .text .now in
     sym (printable-low l (i .k) (omega arith) (c .if1 .taken)) ∙ i .inv .1
 
--- src/lib.rt:315:19
 shared-slice-read-if2 : tie.Need-shared-slice-read-if2 Inv-loop μ-loop
 shared-slice-read-if2 c = omega arith
 
--- src/lib.rt:316:13
 returns-2 : tie.Need-returns-2 Inv-loop μ-loop
 returns-2 c = let i = c .before .before .before .before .before .loop in
     let l = c .before .before .before .before .before .before .args .text .now in
     sym (printable-high l (i .k) (omega arith) (c .if2 .taken)) ∙ i .inv .1
 
--- src/lib.rt:318:9
 add-k : tie.Need-add-k Inv-loop μ-loop
 add-k c = search needs
 
--- src/lib.rt:311:5
 loop-less : tie.Need-loop-less Inv-loop μ-loop
 loop-less c = omega arith
 
--- src/lib.rt:311:5
 loop-again : tie.Need-loop-again Inv-loop μ-loop
 loop-again c = let i = c .before .before .before .before .before .loop in
     let l = c .before .before .before .before .before .before .args .text .now in
     (omega arith, sym (printable-next l (i .k) (omega arith) (c .before .before .if1 .left) (c .if2 .left)) ∙ i .inv .1)
 
--- src/lib.rt:307:1
 returns-3 : tie.Need-returns-3 Inv-loop μ-loop
 returns-3 c = let i = c .before .loop in
     sym (printable-end (c .before .before .args .text .now) (i .k) (omega arith)) ∙ i .inv .1

@@ -5,20 +5,14 @@ use Rattle.setup_file.specs.Format.{labelAllowed}
 use borrow.Author.Needs.{needs}
 use Rattle.setup_file.proofs.label_allowed.Statement.{statement}
 use Rattle.setup_file.proofs.label_allowed.Tie as tie
-use Rattle.setup_file.proofs.label_allowed.Reads as reads
-use Rattle.setup_file.proofs.label_allowed.Lts as lts
-use Rattle.setup_file.proofs.is_printable.Reads as is-printable-reads
 
--- src/lib.rt:331:9
 returns : tie.Need-returns
 unfolding labelAllowed
 returns c = search auto
 
--- src/lib.rt:333:5
 is-printable-requires : tie.Need-is-printable-requires
 is-printable-requires c κs = search needs
 
--- src/lib.rt:327:1
 returns-2 : tie.Need-returns-2
 unfolding labelAllowed
 returns-2 c = search (auto, c .is-printable .ensures)

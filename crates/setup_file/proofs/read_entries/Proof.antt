@@ -20,11 +20,6 @@ use borrow.Author.Needs.{needs}
 use Rattle.setup_file.specs.Read.{entriesRead}
 use Rattle.setup_file.proofs.read_entries.Statement.{statement}
 use Rattle.setup_file.proofs.read_entries.Tie as tie
-use Rattle.setup_file.proofs.read_entries.Reads as reads
-use Rattle.setup_file.proofs.read_entries.Lts as lts
-use Rattle.setup_file.proofs.entry_read.Reads as entry-read-reads
-use Rattle.setup_file.proofs.entry_size.Reads as entry-size-reads
-use Rattle.setup_file.proofs.with_entry.Reads as with-entry-reads
 
 -- an entry whose reply is that it was read
 took : (section : Section) (least : ℕ) (b : List ℕ) (r : SetupReply) → r ≡ setupReply.Read → replied r (numberIn b) ≡ entryRead section least b
@@ -43,38 +38,33 @@ Inv-loop section file count settings₀ at₀ least₀ k₀ settings at least k 
 abbrev μ-loop : tie.MeasureT-loop
 μ-loop section file count settings₀ at₀ least₀ k₀ settings at least k = count - k
 
--- src/lib.rt:258:5
 loop-holds : tie.Need-loop-holds Inv-loop μ-loop
 loop-holds c = let a = c .before .before .args in
     (c .before .before .pre, omega arith, ap (λ n. entriesRead (a .section) n 0 (a .from .settings) (drop (a .from .at) (a .file .now))) (sub-zero (a .count)))
 
--- src/lib.rt:259:13
 entry-read-requires : tie.Need-entry-read-requires Inv-loop μ-loop
 entry-read-requires c κs = c .before .loop .inv .0
 
 enum-told : tie.Need-enum-told Inv-loop μ-loop
 enum-told c = c .match .keys1
 
--- src/lib.rt:261:13
 returns : tie.Need-returns Inv-loop μ-loop
 returns c = let i = c .before .before .before .loop in
     let a = c .before .before .before .before .before .before .args in
     let b = drop (i .at) (a .file .now) in
     let k : i .k < a .count = omega arith in (
       entries-refused (a .section) (a .count - (i .k + 1)) (i .least) (i .settings) b (c .before .entry-read .result) (c .match .keys2) (c .before .entry-read .ensures) (i .settings, b)
-      ∙ one-left (a .section) (a .count) (i .k) (i .least) (i .settings) b k
-      ∙ i .inv .2,
+          ∙ one-left (a .section) (a .count) (i .k) (i .least) (i .settings) b k
+          ∙ i .inv .2,
       i .inv .0,
     )
 
--- src/lib.rt:263:9
 with-entry-requires : tie.Need-with-entry-requires Inv-loop μ-loop
 with-entry-requires c κs = let i = c .before .before .before .before .loop in
     let a = c .before .before .before .before .before .before .before .args in
     let h = here (a .section) (i .least) (i .at) (a .file .now) (took (a .section) (i .least) (drop (i .at) (a .file .now)) _ (c .enum-told .given .1) (c .before .before .entry-read .ensures)) (i .inv .0) in
     (h .room, h .within)
 
--- src/lib.rt:264:17
 shared-slice-read-least : tie.Need-shared-slice-read-least Inv-loop μ-loop
 shared-slice-read-least c = let w = c .before .before in
     let i = w .before .before .before .before .before .loop in
@@ -83,7 +73,6 @@ shared-slice-read-least c = let w = c .before .before in
     let h = here (a .section) (i .least) (i .at) (a .file .now) t (i .inv .0) in
     h .in-file
 
--- src/lib.rt:264:17
 add-least : tie.Need-add-least Inv-loop μ-loop
 add-least c = let w = c .before .before in
     let i = w .before .before .before .before .before .loop in
@@ -92,11 +81,9 @@ add-least c = let w = c .before .before in
     let h = here (a .section) (i .least) (i .at) (a .file .now) t (i .inv .0) in
     omega (arith, h .number-small)
 
--- src/lib.rt:265:15
 entry-size-requires : tie.Need-entry-size-requires Inv-loop μ-loop
 entry-size-requires c κs = search needs
 
--- src/lib.rt:265:9
 add-at : tie.Need-add-at Inv-loop μ-loop
 add-at c = let w = c .before .before in
     let i = w .before .before .before .before .before .loop in
@@ -106,15 +93,12 @@ add-at c = let w = c .before .before in
     let r : i .at + c .before .entry-size .result ≤ length (a .file .now) = rw (c .before .entry-size .ensures) (h .room) in
     search (needs, w .before .before .before .before .before .before .before .before .good)
 
--- src/lib.rt:266:9
 add-k : tie.Need-add-k Inv-loop μ-loop
 add-k c = search needs
 
--- src/lib.rt:258:5
 loop-less : tie.Need-loop-less Inv-loop μ-loop
 loop-less c = omega arith
 
--- src/lib.rt:258:5
 loop-again : tie.Need-loop-again Inv-loop μ-loop
 loop-again c = let w = c .before .before in
     let i = w .before .before .before .before .before .loop in
@@ -126,11 +110,10 @@ loop-again c = let w = c .before .before in
       h .room,
       omega arith,
       entries-on (a .section) (i .least) (i .at) (a .file .now) t (a .count - (i .k + 1)) (i .settings)
-      ∙ one-left (a .section) (a .count) (i .k) (i .least) (i .settings) (drop (i .at) (a .file .now)) k
-      ∙ i .inv .2,
+          ∙ one-left (a .section) (a .count) (i .k) (i .least) (i .settings) (drop (i .at) (a .file .now)) k
+          ∙ i .inv .2,
     )
 
--- src/lib.rt:249:1
 returns-2 : tie.Need-returns-2 Inv-loop μ-loop
 returns-2 c = let i = c .before .loop in
     let a = c .before .before .before .before .args in

@@ -11,11 +11,6 @@ use Rattle.setup_file.proofs.Onward.{stopped, went-on}
 use borrow.Author.Needs.{needs}
 use Rattle.setup_file.proofs.read_file.Statement.{statement}
 use Rattle.setup_file.proofs.read_file.Tie as tie
-use Rattle.setup_file.proofs.read_file.Reads as reads
-use Rattle.setup_file.proofs.read_file.Lts as lts
-use Rattle.setup_file.proofs.read_label.Reads as read-label-reads
-use Rattle.setup_file.proofs.read_section.Reads as read-section-reads
-use Rattle.setup_file.proofs.read_zones.Reads as read-zones-reads
 
 -- what follows the channels, and what follows the zones
 abbrev then-label : Settings × List ℕ → Outcome (Settings × List ℕ)
@@ -24,27 +19,23 @@ then-label r = labelRead (r .0) (r .1)
 abbrev then-channels : Settings × List ℕ → Outcome (Settings × List ℕ)
 then-channels r = andThen (sectionRead Channels (r .0) (r .1)) then-label
 
--- src/lib.rt:369:9
 read-zones-requires : tie.Need-read-zones-requires
 read-zones-requires c κs = search needs
 
 enum-told : tie.Need-enum-told
 enum-told c = search needs
 
--- src/lib.rt:372:9
 returns : tie.Need-returns
 returns c = let z = c .before .read-zones in
     let l = c .before .before .before .args .file .now in
     (stopped (z .result) l then-channels (c .match .keys2) (z .ensures .0), z .ensures .1)
 
--- src/lib.rt:374:9
 read-section-requires : tie.Need-read-section-requires
 read-section-requires c κs = search needs
 
 enum-told-2 : tie.Need-enum-told-2
 enum-told-2 c = search needs
 
--- src/lib.rt:377:9
 returns-2 : tie.Need-returns-2
 returns-2 c = let n = c .before .read-section in
     let t = c .before .before in
@@ -53,11 +44,9 @@ returns-2 c = let n = c .before .read-section in
     let r = t .enum-told .given .1 in
     (stopped (n .result) l then-label (c .match2 .keys2) (n .ensures .0) ∙ went-on (z .result) l then-channels r (z .ensures .0), n .ensures .1)
 
--- src/lib.rt:379:5
 read-label-requires : tie.Need-read-label-requires
 read-label-requires c κs = search needs
 
--- src/lib.rt:365:1
 returns-3 : tie.Need-returns-3
 returns-3 c = let u = c .before in
     let n = u .before .before .read-section in

@@ -11,33 +11,24 @@ use Rattle.setup_file.proofs.Sections.{label-none, label-over, label-cu
 use borrow.Author.Needs.{needs}
 use Rattle.setup_file.proofs.read_label.Statement.{statement}
 use Rattle.setup_file.proofs.read_label.Tie as tie
-use Rattle.setup_file.proofs.read_label.Reads as reads
-use Rattle.setup_file.proofs.read_label.Lts as lts
-use Rattle.setup_file.proofs.is_printable.Reads as is-printable-reads
 
--- src/lib.rt:345:9
 returns : tie.Need-returns
 returns c = let f = c .before .before .before in
     let a = f .args in
     (label-none (a .from .at) (a .file .now) (a .from .settings) (c .if1 .taken), f .pre)
 
--- src/lib.rt:347:17
 shared-slice-read-count : tie.Need-shared-slice-read-count
 shared-slice-read-count c = search needs
 
--- src/lib.rt:347:17
 cast-count : tie.Need-cast-count
 cast-count c = omega (arith, c .shared-slice-known2 .given (c .before .before .before .before .args .from .at))
 
--- src/lib.rt:348:16
 sub-left : tie.Need-sub-left
 sub-left c = search needs
 
--- src/lib.rt:348:16
 sub-left-2 : tie.Need-sub-left-2
 sub-left-2 c = search needs
 
--- src/lib.rt:350:9
 returns-2 : tie.Need-returns-2
 returns-2 c = let e = c .before .before in
     let f = e .before .before .before in
@@ -46,7 +37,6 @@ returns-2 c = let e = c .before .before in
     let h : a .from .at < length (a .file .now) = omega (arith, f .pre) in
     (label-over (a .from .at) (a .file .now) (a .from .settings) h (c .if2 .taken), f .pre)
 
--- src/lib.rt:353:9
 returns-3 : tie.Need-returns-3
 returns-3 c = let m = c .before in
     let e = m .before .before in
@@ -56,35 +46,27 @@ returns-3 c = let m = c .before in
     let h : a .from .at < length (a .file .now) = omega (arith, f .pre) in
     (label-cut (a .from .at) (a .file .now) (a .from .settings) h (m .if2 .left) (c .if3 .taken), f .pre)
 
--- src/lib.rt:355:28
 add-is-printable : tie.Need-add-is-printable
 add-is-printable c = search needs
 
--- src/lib.rt:355:36
 add-is-printable-2 : tie.Need-add-is-printable-2
 add-is-printable-2 c = search needs
 
--- src/lib.rt:355:36
 add-is-printable-3 : tie.Need-add-is-printable-3
 add-is-printable-3 c = search needs
 
--- src/lib.rt:355:22
 sub-is-printable : tie.Need-sub-is-printable
 sub-is-printable c = search needs
 
--- src/lib.rt:355:22
 part-is-printable-start : tie.Need-part-is-printable-start
 part-is-printable-start c = search needs
 
--- src/lib.rt:355:22
 part-is-printable-end : tie.Need-part-is-printable-end
 part-is-printable-end c = search needs
 
--- src/lib.rt:355:9
 is-printable-requires : tie.Need-is-printable-requires
 is-printable-requires c κs = search needs
 
--- src/lib.rt:356:9
 returns-4 : tie.Need-returns-4
 returns-4 c = let y = c .before in
     let w = y .before .before in
@@ -99,7 +81,6 @@ returns-4 c = let y = c .before in
     ap (λ i. printable (take i (drop (a .from .at + 1) (a .file .now)))) k ∙ sym (y .is-printable .ensures) ∙ not-true _ (c .if4 .taken) in
     (label-bad (a .from .at) (a .file .now) (a .from .settings) h (m .if2 .left) (w .if3 .left) g, f .pre)
 
--- src/lib.rt:359:9
 returns-5 : tie.Need-returns-5
 returns-5 c = let p = c .before in
     let y = p .before in
@@ -115,11 +96,9 @@ returns-5 c = let p = c .before in
     ap (λ i. printable (take i (drop (a .from .at + 1) (a .file .now)))) k ∙ sym (y .is-printable .ensures) ∙ not-false _ (p .if4 .left) in
     (label-long (a .from .at) (a .file .now) (a .from .settings) h (m .if2 .left) (w .if3 .left) g (c .if5 .taken), f .pre)
 
--- src/lib.rt:361:55
 add-t12 : tie.Need-add-t12
 add-t12 c = search needs
 
--- src/lib.rt:337:1
 returns-6 : tie.Need-returns-6
 returns-6 c = let p = c .before in
     let y = p .before in

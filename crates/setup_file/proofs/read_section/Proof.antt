@@ -8,26 +8,18 @@ use Rattle.setup_file.proofs.Sections.{section-none, section-over, sect
 use borrow.Author.Needs.{needs}
 use Rattle.setup_file.proofs.read_section.Statement.{statement}
 use Rattle.setup_file.proofs.read_section.Tie as tie
-use Rattle.setup_file.proofs.read_section.Reads as reads
-use Rattle.setup_file.proofs.read_section.Lts as lts
-use Rattle.setup_file.proofs.most_entries.Reads as most-entries-reads
-use Rattle.setup_file.proofs.read_entries.Reads as read-entries-reads
 
--- src/lib.rt:280:9
 returns : tie.Need-returns
 returns c = let f = c .before .before .before in
     let a = f .args in
     (section-none (a .from .at) (a .file .now) (a .from .settings) (a .section) (c .if1 .taken), f .pre)
 
--- src/lib.rt:282:17
 shared-slice-read-count : tie.Need-shared-slice-read-count
 shared-slice-read-count c = search needs
 
--- src/lib.rt:283:8
 most-entries-requires : tie.Need-most-entries-requires
 most-entries-requires c κs = search needs
 
--- src/lib.rt:284:9
 returns-2 : tie.Need-returns-2
 returns-2 c = let f = c .before .before .before .before .before .before in
     let a = f .args in
@@ -35,15 +27,12 @@ returns-2 c = let f = c .before .before .before .before .before .before in
     let h : a .from .at < length (a .file .now) = omega (arith, f .pre) in
     (section-over (a .from .at) (a .file .now) (a .from .settings) h (a .section) (rw (c .before .most-entries .ensures) at (c .if2 .taken)), f .pre)
 
--- src/lib.rt:286:90
 add-t7 : tie.Need-add-t7
 add-t7 c = search needs
 
--- src/lib.rt:286:5
 read-entries-requires : tie.Need-read-entries-requires
 read-entries-requires c κs = search needs
 
--- src/lib.rt:272:1
 returns-3 : tie.Need-returns-3
 returns-3 c = let m = c .before in
     let f = m .before .before .before .before .before .before in

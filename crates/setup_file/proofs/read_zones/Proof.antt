@@ -18,47 +18,35 @@ use Rattle.setup_file.proofs.Onward.{stopped, went-on}
 use borrow.Author.Needs.{needs}
 use Rattle.setup_file.proofs.read_zones.Statement.{statement}
 use Rattle.setup_file.proofs.read_zones.Tie as tie
-use Rattle.setup_file.proofs.read_zones.Reads as reads
-use Rattle.setup_file.proofs.read_zones.Lts as lts
-use Rattle.mpe_layout.proofs.MpeLayout.new.Reads as MpeLayout-new-reads
-use Rattle.settings.proofs.Settings.new.Reads as Settings-new-reads
-use Rattle.setup_file.proofs.read_section.Reads as read-section-reads
 
 -- what the pair decides
 abbrev pair : Settings × List ℕ → Outcome (Settings × List ℕ)
 pair r = if legal (r .0 .layout) then given r else outOfRange
 
--- src/lib.rt:295:61
 new-requires : tie.Need-new-requires
 new-requires c κs = search needs
 
--- src/lib.rt:296:9
 read-section-requires : tie.Need-read-section-requires
 read-section-requires c κs = search needs
 
 enum-told : tie.Need-enum-told
 enum-told c = search needs
 
--- src/lib.rt:299:9
 returns : tie.Need-returns
 returns c = let p = c .before .read-section .result in
     let l = c .before .before .before .before .args .file .now in
     let e : progressOf p l ≡ sectionRead Zones newSettings l = c .before .read-section .ensures .0 ∙ ap (λ s. sectionRead Zones s l) (c .before .before .new .ensures .0) in
     (stopped p l pair (c .match .keys2) e, c .before .read-section .ensures .1)
 
--- src/lib.rt:303:34
 new-requires-2 : tie.Need-new-requires-2
 new-requires-2 c κs = search needs
 
--- src/lib.rt:303:26
 enum-known-made : tie.Need-enum-known-made
 enum-known-made c = search needs
 
--- src/lib.rt:304:34
 enum-told-2 : tie.Need-enum-told-2
 enum-told-2 c = search needs
 
--- src/lib.rt:304:9
 returns-2 : tie.Need-returns-2
 returns-2 c = let n = c .before .before in
     let d = n .before .before .before .before .before in
@@ -68,7 +56,6 @@ returns-2 c = let n = c .before .before in
     let q : legal (p .settings .layout) ≡ false = made-none (p .settings .layout) (sym (ap layoutMade (c .enum-told2 .given .1)) ∙ n .new2 .ensures) in
     (rw q at (went-on p l pair (n .before .before .before .enum-told .given .1) e), d .read-section .ensures .1)
 
--- src/lib.rt:291:1
 returns-3 : tie.Need-returns-3
 returns-3 c = let m = c .before in
     let n = m .before .before in

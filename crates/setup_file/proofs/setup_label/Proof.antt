@@ -9,41 +9,31 @@ use Rattle.setup_file.proofs.Onward.{read-handed, refused-handed}
 use borrow.Author.Needs.{needs}
 use Rattle.setup_file.proofs.setup_label.Statement.{statement}
 use Rattle.setup_file.proofs.setup_label.Tie as tie
-use Rattle.setup_file.proofs.setup_label.Reads as reads
-use Rattle.setup_file.proofs.setup_label.Lts as lts
-use Rattle.setup_file.proofs.read_file.Reads as read-file-reads
 
--- src/lib.rt:399:9
 read-file-requires : tie.Need-read-file-requires
 read-file-requires c κs = search needs
 
 enum-told : tie.Need-enum-told
 enum-told c = search needs
 
--- src/lib.rt:402:9
 slice-aggregate-result : tie.Need-slice-aggregate-result
 slice-aggregate-result c = search needs
 
--- src/lib.rt:402:9
 returns : tie.Need-returns
 returns c = let t = c .before in
     let d = t .before .read-file in
     let l = t .before .before .before .args .file .now in
     refused-handed (d .result) l (d .ensures .0) (t .match .keys2) .1
 
--- src/lib.rt:405:5
 sub-result : tie.Need-sub-result
 sub-result c = search needs
 
--- src/lib.rt:405:5
 part-result-start : tie.Need-part-result-start
 part-result-start c = search needs
 
--- src/lib.rt:405:5
 part-result-end : tie.Need-part-result-end
 part-result-end c = search needs
 
--- src/lib.rt:396:1
 returns-2 : tie.Need-returns-2
 returns-2 c = let t = c .before in
     let d = t .before .before .read-file in

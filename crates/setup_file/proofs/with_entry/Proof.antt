@@ -14,38 +14,26 @@ use Rattle.setup_file.specs.declared.Section.the-variants.{Zones, Channe
 use borrow.Author.Needs.{needs}
 use Rattle.setup_file.proofs.with_entry.Statement.{statement}
 use Rattle.setup_file.proofs.with_entry.Tie as tie
-use Rattle.setup_file.proofs.with_entry.Reads as reads
-use Rattle.setup_file.proofs.with_entry.Lts as lts
-use Rattle.setup_file.proofs.channel_entry_at.Reads as channel-entry-at-reads
-use Rattle.setup_file.proofs.with_channel.Reads as with-channel-reads
-use Rattle.setup_file.proofs.with_zone.Reads as with-zone-reads
-use Rattle.setup_file.proofs.zone_entry_at.Reads as zone-entry-at-reads
 
--- src/lib.rt:251:37
 enum-told : tie.Need-enum-told
 enum-told c = search needs
 
--- src/lib.rt:251:37
 zone-entry-at-requires : tie.Need-zone-entry-at-requires
 zone-entry-at-requires c κs = let f = c .before .before .before in
     let e : f .args .section ≡ Zones = c .enum-told .given .1 in
     rw e at (f .pre .0)
 
--- src/lib.rt:251:27
 with-zone-requires : tie.Need-with-zone-requires
 with-zone-requires c κs = search needs
 
--- src/lib.rt:252:43
 enum-told-2 : tie.Need-enum-told-2
 enum-told-2 c = search needs
 
--- src/lib.rt:252:43
 channel-entry-at-requires : tie.Need-channel-entry-at-requires
 channel-entry-at-requires c κs = let f = c .before .before .before in
     let e : f .args .section ≡ Channels = c .enum-told2 .given .1 in
     rw e at (f .pre .0)
 
--- src/lib.rt:252:30
 with-channel-requires : tie.Need-with-channel-requires
 with-channel-requires c κs = let f = c .before .before .before .before in
     let e : f .args .section ≡ Channels = c .before .enum-told2 .given .1 in
@@ -53,13 +41,11 @@ with-channel-requires c κs = let f = c .before .before .before .before in
     let w : entryWithin Channels b ≡ true = rw e at (f .pre .1) in
     rw (c .channel-entry-at .ensures) (within-number Channels b w, omega (arith, channel-within _ _ _ _ _ w .0))
 
--- src/lib.rt:246:1
 returns : tie.Need-returns
 returns c = let f = c .before .before .before .before .before in
     let e : f .args .section ≡ Zones = c .before .before .enum-told .given .1 in
     rw (e, c .with-zone .ensures, c .before .zone-entry-at .ensures) refl
 
--- src/lib.rt:246:1
 returns-2 : tie.Need-returns-2
 returns-2 c = let f = c .before .before .before .before .before in
     let e : f .args .section ≡ Channels = c .before .before .enum-told2 .given .1 in

@@ -3,14 +3,10 @@
 use Rattle.ump.proofs.Auto.{auto}
 use Rattle.setup_file.proofs.with_zone.Statement.{statement}
 use Rattle.setup_file.proofs.with_zone.Tie as tie
-use Rattle.setup_file.proofs.with_zone.Reads as reads
-use Rattle.setup_file.proofs.with_zone.Lts as lts
 
--- src/lib.rt:224:9
 returns : tie.Need-returns
 returns c = search auto
 
--- src/lib.rt:214:1
 returns-2 : tie.Need-returns-2
 returns-2 c = search auto
 

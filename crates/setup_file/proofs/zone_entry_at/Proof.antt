@@ -2,62 +2,46 @@ use Rattle.setup_file.proofs.Places.{zone-entry-here}
 use borrow.Author.Needs.{needs}
 use Rattle.setup_file.proofs.zone_entry_at.Statement.{statement}
 use Rattle.setup_file.proofs.zone_entry_at.Tie as tie
-use Rattle.setup_file.proofs.zone_entry_at.Reads as reads
-use Rattle.setup_file.proofs.zone_entry_at.Lts as lts
 
--- src/lib.rt:93:17
 shared-slice-read-t4 : tie.Need-shared-slice-read-t4
 shared-slice-read-t4 c = search needs
 
--- src/lib.rt:94:23
 add-t5 : tie.Need-add-t5
 add-t5 c = search needs
 
--- src/lib.rt:94:18
 shared-slice-read-t7 : tie.Need-shared-slice-read-t7
 shared-slice-read-t7 c = search needs
 
--- src/lib.rt:96:55
 add-t8 : tie.Need-add-t8
 add-t8 c = search needs
 
--- src/lib.rt:96:50
 shared-slice-read-t10 : tie.Need-shared-slice-read-t10
 shared-slice-read-t10 c = search needs
 
--- src/lib.rt:96:76
 add-t11 : tie.Need-add-t11
 add-t11 c = search needs
 
--- src/lib.rt:96:71
 shared-slice-read-t13 : tie.Need-shared-slice-read-t13
 shared-slice-read-t13 c = search needs
 
--- src/lib.rt:97:54
 add-t15 : tie.Need-add-t15
 add-t15 c = search needs
 
--- src/lib.rt:97:49
 shared-slice-read-t17 : tie.Need-shared-slice-read-t17
 shared-slice-read-t17 c = search needs
 
--- src/lib.rt:97:75
 add-t18 : tie.Need-add-t18
 add-t18 c = search needs
 
--- src/lib.rt:97:70
 shared-slice-read-t20 : tie.Need-shared-slice-read-t20
 shared-slice-read-t20 c = search needs
 
--- src/lib.rt:98:24
 add-t22 : tie.Need-add-t22
 add-t22 c = search needs
 
--- src/lib.rt:98:19
 shared-slice-read-t24 : tie.Need-shared-slice-read-t24
 shared-slice-read-t24 c = search needs
 
--- src/lib.rt:88:1
 returns : tie.Need-returns
 returns c = zone-entry-here (c .before .before .before .before .before .before .before .args .at) (c .before .before .before .before .before .before .before .args .file .now)
 
