@@ -20,7 +20,7 @@ use Rattle.settings.proofs.Allowed.{both, passed}
 use Rattle.settings.proofs.Counts.{each-length}
 use Rattle.setup_file.specs.declared.Section.{Section}
 use Rattle.setup_file.specs.declared.Section.the-variants.{Zones, Channels}
-use Rattle.setup_file.specs.Format.{most, entrySize, numberIn, membersFrom, zoneFrom, bendFrom, zoneEntryWithin, channelEntryWithin, entryWithin, atRest, unlisted, entryOf, seen, withEntry}
+use Rattle.setup_file.specs.Format.{most, entrySize, numberIn, membersFrom, zoneFrom, bendFrom, zoneEntryWithin, channelEntryWithin, entryWithin, atRest, unlisted, entryOf, seen, settingsWith}
 
 -- the bytes at the front of a list that an entry would be read from
 abbrev pub front : Section → List ℕ → List ℕ
@@ -99,7 +99,7 @@ pub unlisted-front : (section : Section) (l : List ℕ) → unlisted section (fr
 unlisted-front Zones l = refl
 unlisted-front Channels l = refl
 
-pub placed-front : (section : Section) (l : List ℕ) (t : Settings) → withEntry section (front section l) t ≡ withEntry section l t
+pub placed-front : (section : Section) (l : List ℕ) (t : Settings) → settingsWith section (front section l) t ≡ settingsWith section l t
 placed-front Zones l t = refl
 placed-front Channels l t = refl
 
@@ -134,7 +134,7 @@ pub record Sized (t : Settings) : Type 0 where
 pub new-sized : Sized newSettings
 new-sized = record { bends = refl; pressures = refl; brightnesses = refl }
 
-pub placed-sized : (section : Section) (l : List ℕ) (t : Settings) → Sized t → Sized (withEntry section l t)
+pub placed-sized : (section : Section) (l : List ℕ) (t : Settings) → Sized t → Sized (settingsWith section l t)
 placed-sized Zones l t z =
     by-test (eqb (numberIn l) 0)
     (λ e. rw e (record { bends = z .bends; pressures = z .pressures; brightnesses = z .brightnesses }))
@@ -148,7 +148,7 @@ placed-sized Channels l t z =
 
 -- an entry that is placed stands at its number
 pub placed-there : (section : Section) (l : List ℕ) (t : Settings) → Sized t → entryWithin section l ≡ true
-    → entryOf section (withEntry section l t) (numberIn l) ≡ front section l
+    → entryOf section (settingsWith section l t) (numberIn l) ≡ front section l
 placed-there Zones l t z h = by-test (eqb (numberIn l) 0) (λ e. rw e) (λ e. rw e)
 placed-there Channels l t z h =
     let n : numberIn l < 16 = within-number Channels l h in
@@ -163,7 +163,7 @@ placed-there Channels l t z h =
 
 -- and every other number has what it had
 pub placed-elsewhere : (section : Section) (l : List ℕ) (t : Settings) (j : ℕ) → entryWithin section l ≡ true → j < most section → (j ≡ numberIn l → ⊥)
-    → entryOf section (withEntry section l t) j ≡ entryOf section t j
+    → entryOf section (settingsWith section l t) j ≡ entryOf section t j
 placed-elsewhere Zones l t j h b d =
     let n : numberIn l < 2 = within-number Zones l h in
     by-test (eqb (numberIn l) 0)
@@ -185,7 +185,7 @@ otherSection Zones = Channels
 otherSection Channels = Zones
 
 pub placed-beside : (section : Section) (l : List ℕ) (t : Settings) (j : ℕ)
-    → entryOf (otherSection section) (withEntry section l t) j ≡ entryOf (otherSection section) t j
+    → entryOf (otherSection section) (settingsWith section l t) j ≡ entryOf (otherSection section) t j
 placed-beside Zones l t j = by-test (eqb (numberIn l) 0) (λ e. rw e) (λ e. rw e)
 placed-beside Channels l t j = by-test (eqb j 0) (λ e. rw e) (λ e. rw e)
 

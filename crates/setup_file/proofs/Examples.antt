@@ -1,6 +1,6 @@
 -- The table of setup files, by computation.
 -- Assumes nothing.
-use mathlib.Core.Path.{_≡_, refl}
+use mathlib.Core.Path.{refl}
 use Rattle.mpe_layout.specs.Layout.{legalCounts, legal}
 use Rattle.mpe_sender.specs.Writers.{sensitivityAllowed}
 use Rattle.settings.specs.Settings.{zoneAllowed}

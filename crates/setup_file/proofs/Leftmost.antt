@@ -18,7 +18,7 @@ use Rattle.settings.specs.declared.Settings.{Settings}
 use Rattle.settings.specs.Settings.{newSettings}
 use Rattle.setup_file.specs.declared.Section.{Section}
 use Rattle.setup_file.specs.declared.Section.the-variants.{Zones, Channels}
-use Rattle.setup_file.specs.Format.{most, entrySize, numberIn, entryWithin, unlisted, withEntry, mostLabel, printable}
+use Rattle.setup_file.specs.Format.{most, entrySize, numberIn, entryWithin, unlisted, settingsWith, mostLabel, printable}
 use Rattle.setup_file.specs.Read.{wrongLength, outOfOrder, andThen, entryRead, entriesRead, sectionRead, zonesRead, labelRead, fileRead}
 use Rattle.setup_file.specs.Claims.{Leftmost}
 use Rattle.setup_file.proofs.Outcomes.{same-refusal, not-given}
@@ -51,8 +51,8 @@ module _ (section : Section) (l more : List ℕ) (h : entrySize section ≤ leng
   same-unlisted : unlisted section (l ++ more) ≡ unlisted section l
   same-unlisted = sym (unlisted-front section (l ++ more)) ∙ ap (unlisted section) (front-append section l more h) ∙ unlisted-front section l
 
-  same-placed : (t : Settings) → withEntry section (l ++ more) t ≡ withEntry section l t
-  same-placed t = sym (placed-front section (l ++ more) t) ∙ ap (λ e. withEntry section e t) (front-append section l more h) ∙ placed-front section l t
+  same-placed : (t : Settings) → settingsWith section (l ++ more) t ≡ settingsWith section l t
+  same-placed t = sym (placed-front section (l ++ more) t) ∙ ap (λ e. settingsWith section e t) (front-append section l more h) ∙ placed-front section l t
 
   still-long : entrySize section ≤ length (l ++ more)
   still-long = omega (arith, length-append l more)
@@ -96,7 +96,7 @@ entries-goes section (suc left) least t l more =
     (λ n e.
     let h = read-taken section least l e .0 .long in
     rw (same-placed section l more h t, drop-append-le (entrySize section) l more h)
-    (entries-goes section left (suc n) (withEntry section l t) (drop (entrySize section) l) more))
+    (entries-goes section left (suc n) (settingsWith section l t) (drop (entrySize section) l) more))
 
 section-goes : (section : Section) (t : Settings) (l more : List ℕ)
     → Goes (λ r. given (longer more r)) (sectionRead section t l) (sectionRead section t (l ++ more))

@@ -1,7 +1,7 @@
 -- Entries are read from a place on: one that is taken leaves the rest to be read, one that is refused gives the answer.
 -- Assumes nothing.
-use Prim.Native.Nat.{ℕ, zero, suc, _+_, _-_, _<_, _≤_}
-use mathlib.Core.Bool.{true, false}
+use Prim.Native.Nat.{ℕ, suc, _+_, _-_, _<_, _≤_}
+use mathlib.Core.Bool.{true}
 use mathlib.Core.Path.{_≡_, refl, sym, ap, _∙_}
 use mathlib.Core.Logic.{⊎-elim}
 use mathlib.Core.List.{List, [], _∷_}
@@ -11,7 +11,7 @@ use lib.ListN.{length, getD, drop, length-drop}
 use lib.Seq.{drop-drop}
 use types.Run.{OneOf}
 use denote.Enum.Declared.{tagOf}
-use Rattle.ump.specs.Outcome.{Outcome, given, outOfRange}
+use Rattle.ump.specs.Outcome.{Outcome, given}
 use Rattle.settings.specs.declared.Settings.{Settings}
 use Rattle.settings.specs.Settings.{newSettings}
 use Rattle.setup_file.specs.declared.Section.{Section}
@@ -19,12 +19,12 @@ use Rattle.setup_file.specs.declared.Section.the-variants.{Zones, Channe
 use Rattle.setup_file.specs.declared.SetupReply.{SetupReply}
 use Rattle.setup_file.specs.declared.SetupReply.the-variants as setupReply
 use Rattle.setup_file.specs.declared.Progress.{Progress}
-use Rattle.setup_file.specs.Format.{most, entrySize, numberIn, entryWithin, withEntry}
+use Rattle.setup_file.specs.Format.{most, entrySize, numberIn, entryWithin, settingsWith}
 use Rattle.setup_file.specs.Read.{andThen, entryRead, entriesRead, settingsIn, settingsOrNew, labelIn, replied, progressOf}
 use Rattle.setup_file.proofs.SetupReply.{the-type}
 use Rattle.setup_file.proofs.Places.{getD-here}
 use Rattle.setup_file.proofs.Entries.{within-number}
-use Rattle.setup_file.proofs.Taken.{Taken, read-taken}
+use Rattle.setup_file.proofs.Taken.{read-taken}
 
 -- a refusal is no reply of something read
 pub not-read : (r : SetupReply) → OneOf (1 ∷ 2 ∷ 3 ∷ []) (tagOf the-type r) → r ≡ setupReply.Read → ⊥
@@ -39,6 +39,12 @@ refused setupReply.Read t a b next = absurd (not-read setupReply.Read t refl)
 refused setupReply.OutOfRange t a b next = refl
 refused setupReply.WrongLength t a b next = refl
 refused setupReply.OutOfOrder t a b next = refl
+
+pub refused-alike : {A : Type 0} (r : SetupReply) → OneOf (1 ∷ 2 ∷ 3 ∷ []) (tagOf the-type r) → (a b : A) → replied r a ≡ replied r b
+refused-alike setupReply.Read t a b = absurd (not-read setupReply.Read t refl)
+refused-alike setupReply.OutOfRange t a b = refl
+refused-alike setupReply.WrongLength t a b = refl
+refused-alike setupReply.OutOfOrder t a b = refl
 
 -- an entry that was taken at a place stands there whole, inside its limits
 pub record Here (section : Section) (at : ℕ) (l : List ℕ) : Type 0 where
@@ -71,7 +77,7 @@ module _ (section : Section) (least at : ℕ) (l : List ℕ) (taken : given (num
       small Channels w = w
 
   pub entries-on : (left : ℕ) (s : Settings)
-      → entriesRead section left (getD l at 0 + 1) (withEntry section (drop at l) s) (drop (at + entrySize section) l) ≡ entriesRead section (suc left) least s (drop at l)
+      → entriesRead section left (getD l at 0 + 1) (settingsWith section (drop at l) s) (drop (at + entrySize section) l) ≡ entriesRead section (suc left) least s (drop at l)
   unfolding entriesRead
   entries-on left s = rw (← taken, add-one, getD-here at l, drop-drop)
 
@@ -85,8 +91,8 @@ pub entries-refused : (section : Section) (left least : ℕ) (s : Settings) (b :
     → replied r (numberIn b) ≡ entryRead section least b → (p : Settings × List ℕ) → replied r p ≡ entriesRead section (suc left) least s b
 unfolding entriesRead
 entries-refused section left least s b r t e p =
-    refused r t (numberIn b) p (λ n. entriesRead section left (suc n) (withEntry section b s) (drop (entrySize section) b))
-    ∙ ap (λ o. andThen o (λ n. entriesRead section left (suc n) (withEntry section b s) (drop (entrySize section) b))) e
+    refused r t (numberIn b) p (λ n. entriesRead section left (suc n) (settingsWith section b s) (drop (entrySize section) b))
+    ∙ ap (λ o. andThen o (λ n. entriesRead section left (suc n) (settingsWith section b s) (drop (entrySize section) b))) e
 
 -- a file that was refused so far is refused, and else the rest of it decides
 pub stopped : (p : Progress) (l : List ℕ) {o : Outcome (Settings × List ℕ)} (next : Settings × List ℕ → Outcome (Settings × List ℕ))

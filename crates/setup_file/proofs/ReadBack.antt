@@ -19,7 +19,7 @@ use Rattle.settings.specs.Settings.{newSettings, allowed}
 use Rattle.settings.proofs.Allowed.{passed, allowed-legal}
 use Rattle.setup_file.specs.declared.Section.{Section}
 use Rattle.setup_file.specs.declared.Section.the-variants.{Zones, Channels}
-use Rattle.setup_file.specs.Format.{most, unlisted, entryOf, entriesFrom, entriesOf, sectionOf, mostLabel, labelAllowed, setupFile, seen, withEntry}
+use Rattle.setup_file.specs.Format.{most, unlisted, entryOf, entriesFrom, entriesOf, sectionOf, mostLabel, labelAllowed, setupFile, seen, settingsWith}
 use Rattle.setup_file.specs.Read.{entriesRead, sectionRead, labelRead, fileRead}
 use Rattle.setup_file.specs.Claims.{Writable}
 use Rattle.setup_file.proofs.Entries.{own-front, own-rest, own-number, Sized, new-sized, placed-sized, placed-there, placed-elsewhere, otherSection, placed-beside, of-each, same-layout, same-entries, seen-sized, seen-listed, seen-unlisted}
@@ -47,15 +47,15 @@ skipped section s t k b u h =
 
 -- and a listed one is placed
 placed-own : (section : Section) (s t : Settings) (k : ℕ) (rest : List ℕ) → k < most section → unlisted section (entryOf section s k) ≡ false
-    → Taken section k (entryOf section s k ++ rest) → Sized t → entryOf section (withEntry section (entryOf section s k ++ rest) t) k ≡ entryOf section (seen s) k
+    → Taken section k (entryOf section s k ++ rest) → Sized t → entryOf section (settingsWith section (entryOf section s k ++ rest) t) k ≡ entryOf section (seen s) k
 placed-own section s t k rest b u a z =
-    ap (entryOf section (withEntry section (entryOf section s k ++ rest) t)) (sym (own-number section s k rest))
+    ap (entryOf section (settingsWith section (entryOf section s k ++ rest) t)) (sym (own-number section s k rest))
     ∙ placed-there section (entryOf section s k ++ rest) t z (a .within)
     ∙ own-front section s k rest
     ∙ sym (seen-listed section s k b u)
 
 placed : (section : Section) (s t : Settings) (k : ℕ) (rest : List ℕ) → k < most section → unlisted section (entryOf section s k) ≡ false
-    → Taken section k (entryOf section s k ++ rest) → Stands section s t k → Stands section s (withEntry section (entryOf section s k ++ rest) t) (suc k)
+    → Taken section k (entryOf section s k ++ rest) → Stands section s t k → Stands section s (settingsWith section (entryOf section s k ++ rest) t) (suc k)
 placed section s t k rest b u a h =
     let e = entryOf section s k ++ rest in
     let n = own-number section s k rest in
@@ -97,7 +97,7 @@ one-more section s h n k least b l t a rest next =
     (λ u. rw (u, append-assoc)
     (let more = flatten (entriesFrom section s (suc k) n) ++ rest in
     let entry = entryOf section s k ++ more in
-    let r = next (suc k) (withEntry section entry t) (le-refl (suc k)) (placed section s t k more b u (own-taken section s k k more h b (le-refl k) u) a) in
+    let r = next (suc k) (settingsWith section entry t) (le-refl (suc k)) (placed section s t k more b u (own-taken section s k k more h b (le-refl k) u) a) in
     record {
       end = r .end;
       taken = rw (taken-read section least entry (own-taken section s k least more h b l u), own-number section s k more, own-rest section s k more) (r .taken);

@@ -21,7 +21,7 @@ use Rattle.settings.proofs.Allowed.{passed}
 use Rattle.settings.proofs.Limits.{channels-pass}
 use Rattle.setup_file.specs.declared.Section.{Section}
 use Rattle.setup_file.specs.declared.Section.the-variants.{Zones, Channels}
-use Rattle.setup_file.specs.Format.{most, entrySize, numberIn, zoneEntryWithin, entryWithin, unlisted, entryOf, entriesFrom, sectionOf, mostLabel, printable, labelAllowed, setupFile, withEntry}
+use Rattle.setup_file.specs.Format.{most, entrySize, numberIn, zoneEntryWithin, entryWithin, unlisted, entryOf, entriesFrom, sectionOf, mostLabel, printable, labelAllowed, setupFile, settingsWith}
 use Rattle.setup_file.specs.Read.{wrongLength, andThen, entryRead, entriesRead, sectionRead, zonesRead, labelRead, fileRead}
 use Rattle.setup_file.specs.Claims.{Writable}
 use Rattle.setup_file.proofs.Outcomes.{same-given, not-given, both-given}
@@ -43,12 +43,12 @@ new-proper = record { sized = new-sized; inside = λ section j b u. apart (unlis
     apart : {P : Type 0} (b : Bool) → b ≡ true → b ≡ false → P
     apart b t f = absurd (let z : _≡_ {A = ℕ} 0 1 = cc in omega arith)
 
-placed-proper : (section : Section) (l : List ℕ) (t : Settings) → entryWithin section l ≡ true → Proper t → Proper (withEntry section l t)
+placed-proper : (section : Section) (l : List ℕ) (t : Settings) → entryWithin section l ≡ true → Proper t → Proper (settingsWith section l t)
 placed-proper section l t h p =
     record {
       sized = placed-sized section l t (p .sized);
       inside =
-          of-each (λ other. (j : ℕ) → j < most other → Inside other (entryOf other (withEntry section l t) j)) section
+          of-each (λ other. (j : ℕ) → j < most other → Inside other (entryOf other (settingsWith section l t) j)) section
           (λ j b.
           by-test (eqb j (numberIn l))
           (λ e. rw (eqb-true j (numberIn l) e, placed-there section l t (p .sized) h) (λ u. within-front section l ∙ h))
@@ -96,7 +96,7 @@ none-back section least t l p r =
     }
 
 one-back : (section : Section) (left least : ℕ) (t t′ : Settings) (l rest : List ℕ) → Resting section least t → Sized t → Taken section least l
-    → Back section left (suc (numberIn l)) (withEntry section l t) t′ (drop (entrySize section) l) rest → Back section (suc left) least t t′ l rest
+    → Back section left (suc (numberIn l)) (settingsWith section l t) t′ (drop (entrySize section) l) rest → Back section (suc left) least t t′ l rest
 unfolding flatten entriesFrom
 one-back section left least t t′ l rest r z a b =
     let k = numberIn l in
@@ -122,10 +122,10 @@ one-back section left least t t′ l rest r z a b =
 
 -- one entry, and those after it
 one-read : (section : Section) (left least : ℕ) (t t′ : Settings) (l rest : List ℕ) → Proper t → Resting section least t
-    → andThen (entryRead section least l) (λ n. entriesRead section left (suc n) (withEntry section l t) (drop (entrySize section) l)) ≡ given (t′, rest)
-    → (Proper (withEntry section l t) → Resting section (suc (numberIn l)) (withEntry section l t)
-    → entriesRead section left (suc (numberIn l)) (withEntry section l t) (drop (entrySize section) l) ≡ given (t′, rest)
-    → Back section left (suc (numberIn l)) (withEntry section l t) t′ (drop (entrySize section) l) rest)
+    → andThen (entryRead section least l) (λ n. entriesRead section left (suc n) (settingsWith section l t) (drop (entrySize section) l)) ≡ given (t′, rest)
+    → (Proper (settingsWith section l t) → Resting section (suc (numberIn l)) (settingsWith section l t)
+    → entriesRead section left (suc (numberIn l)) (settingsWith section l t) (drop (entrySize section) l) ≡ given (t′, rest)
+    → Back section left (suc (numberIn l)) (settingsWith section l t) t′ (drop (entrySize section) l) rest)
     → Back section (suc left) least t t′ l rest
 one-read section left least t t′ l rest p r e next =
     let g = both-given (entryRead section least l) _ (t′, rest) e in
@@ -136,7 +136,7 @@ one-read section left least t t′ l rest p r e next =
     (next
     (placed-proper section l t (a .within) p)
     (λ j m b. ap (unlisted section) (placed-elsewhere section l t j (a .within) b (λ i. omega arith)) ∙ r j (omega arith) b)
-    (ap (λ n. entriesRead section left (suc n) (withEntry section l t) (drop (entrySize section) l)) (sym (h .1)) ∙ g .2))
+    (ap (λ n. entriesRead section left (suc n) (settingsWith section l t) (drop (entrySize section) l)) (sym (h .1)) ∙ g .2))
 
 entries-back : (section : Section) (left least : ℕ) (t t′ : Settings) (l rest : List ℕ) → Proper t → Resting section least t
     → entriesRead section left least t l ≡ given (t′, rest) → Back section left least t t′ l rest
@@ -146,7 +146,7 @@ entries-back section zero least t t′ l rest p r e =
     subst (λ (q : Settings × List ℕ). Back section 0 least t (q .0) l (q .1)) s (none-back section least t l p r)
 entries-back section (suc left) least t t′ l rest p r e =
     one-read section left least t t′ l rest p r e
-    (entries-back section left (suc (numberIn l)) (withEntry section l t) t′ (drop (entrySize section) l) rest)
+    (entries-back section left (suc (numberIn l)) (settingsWith section l t) t′ (drop (entrySize section) l) rest)
 
 -- a section that was read
 record SectionBack (section : Section) (t t′ : Settings) (l rest : List ℕ) : Type 0 where

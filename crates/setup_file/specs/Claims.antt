@@ -4,8 +4,8 @@ use Prim.Native.Nat.{ℕ}
 use mathlib.Core.Bool.{true}
 use mathlib.Core.Path.{_≡_}
 use mathlib.Core.Logic.{_⊎_}
-use mathlib.Core.List.{List, [], _∷_, _++_}
-use Rattle.ump.specs.Outcome.{Outcome, given, declined, outOfRange}
+use mathlib.Core.List.{List, _∷_, _++_}
+use Rattle.ump.specs.Outcome.{given, outOfRange}
 use Rattle.receiving_end.specs.declared.end.End.{End}
 use Rattle.receiving_end.specs.End.{newEnd}
 use Rattle.receiving_end.specs.Lists.{Call, after, answers}

@@ -3,7 +3,6 @@ use Prim.Native.Nat.{ℕ}
 use mathlib.Core.Path.{_≡_}
 use mathlib.Core.List.{List, [], _∷_, _++_, map}
 use Rattle.ump.specs.Outcome.{Outcome, given, outOfRange}
-use Rattle.mpe_layout.specs.Layout.{layoutOf}
 use Rattle.settings.specs.declared.Settings.{Settings}
 use Rattle.settings.specs.Settings.{newZone, newSettings}
 use Rattle.setup_file.specs.Format.{withZone, withChannel}

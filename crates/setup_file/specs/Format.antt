@@ -3,7 +3,7 @@
 use Prim.Native.Nat.{ℕ, zero, suc, _*_, _+_, _/_, _%_, _^_}
 use mathlib.Core.Bool.{Bool, true, false}
 use mathlib.Core.List.{List, [], _∷_, _++_, flatten}
-use lib.Dec.{ltb, leb, eqb}
+use lib.Dec.{ltb, eqb}
 use lib.ListN.{length, getD, set}
 use Rattle.ump.specs.Choice.{if_then_else_}
 use Rattle.mpe_layout.specs.declared.MpeZone.{MpeZone}
@@ -176,6 +176,6 @@ withChannel number bend pressure brightness s =
       brightness = set (s .brightness) number brightness;
     }
 
-abbrev pub withEntry : Section → List ℕ → Settings → Settings
-withEntry Zones entry s = withZone (numberIn entry) (membersFrom entry) (zoneFrom entry) s
-withEntry Channels entry s = withChannel (numberIn entry) (bendFrom entry) (getD entry 3 0) (getD entry 4 0) s
+abbrev pub settingsWith : Section → List ℕ → Settings → Settings
+settingsWith Zones entry s = withZone (numberIn entry) (membersFrom entry) (zoneFrom entry) s
+settingsWith Channels entry s = withChannel (numberIn entry) (bendFrom entry) (getD entry 3 0) (getD entry 4 0) s

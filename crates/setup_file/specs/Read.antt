@@ -1,6 +1,5 @@
 -- What a setup file says, or the refusal of its leftmost faulty count, entry or label (document 02, 2026-07).
 use Prim.Native.Nat.{ℕ, zero, suc}
-use mathlib.Core.Bool.{Bool, true, false}
 use mathlib.Core.List.{List, [], _∷_}
 use lib.Dec.{ltb}
 use lib.ListN.{length, take, drop}
@@ -14,7 +13,7 @@ use Rattle.setup_file.specs.declared.Section.the-variants.{Zones, Channe
 use Rattle.setup_file.specs.declared.SetupReply.{SetupReply}
 use Rattle.setup_file.specs.declared.SetupReply.the-variants as setupReply
 use Rattle.setup_file.specs.declared.Progress.{Progress}
-use Rattle.setup_file.specs.Format.{most, entrySize, numberIn, entryWithin, unlisted, withEntry, mostLabel, printable}
+use Rattle.setup_file.specs.Format.{most, entrySize, numberIn, entryWithin, unlisted, settingsWith, mostLabel, printable}
 
 -- 4, the file ends before or inside a section, or goes on after the label
 abbrev pub wrongLength : {A : Type 0} → Outcome A
@@ -43,7 +42,7 @@ unfoldable pub entriesRead : Section → ℕ → ℕ → Settings → List ℕ �
 entriesRead section zero least s bytes = given (s, bytes)
 entriesRead section (suc left) least s bytes =
     andThen (entryRead section least bytes)
-    (λ number. entriesRead section left (suc number) (withEntry section bytes s) (drop (entrySize section) bytes))
+    (λ number. entriesRead section left (suc number) (settingsWith section bytes s) (drop (entrySize section) bytes))
 
 -- a section: a count over its limit is 1 where it stands
 abbrev pub sectionRead : Section → Settings → List ℕ → Outcome (Settings × List ℕ)

@@ -1,11 +1,13 @@
 // The reader of the setup file of a course (document 02, 2026-07): its settings, and its label as the part of the file that holds it.
 ghost use mathlib.Core.Path.{_≡_};
 ghost use mathlib.Core.Bool.{true};
-ghost use Prim.Native.Nat.{ℕ, _+_, _*_, _<_, _≤_, _^_};
+ghost use Prim.Native.Nat.{_+_, _*_, _<_, _≤_, _^_};
 ghost use lib.ListN.{length, drop};
 ghost use Rattle.setup_file.specs.Parts.{zoneEntryAt, channelEntryAt};
-ghost use Rattle.setup_file.specs.Format.{most, entrySize, numberIn, zoneEntryWithin, channelEntryWithin, entryWithin, atRest, unlisted, withZone, withChannel, withEntry, printable, labelAllowed};
+ghost use Rattle.setup_file.specs.Format.{most, entrySize, numberIn, zoneEntryWithin, channelEntryWithin, entryWithin, atRest, unlisted, withZone, withChannel, settingsWith, printable, labelAllowed};
 ghost use Rattle.setup_file.specs.Read.{entryRead, entriesRead, sectionRead, zonesRead, labelRead, fileRead, replied, progressOf, settingsIn, settingsOrNew, labelIn};
+ghost use Rattle.settings.specs.declared.Settings.{Settings};
+ghost use Rattle.setup_file.specs.declared.SetupReply.the-variants.{Read};
 ghost use Rattle.setup_file.specs.Claims.{OnlyForm, SeenIsShown, Leftmost, CourseShown};
 ghost use Rattle.setup_file.specs.Examples.{FilesAsTabled};
 use mpe_layout::MadeLayout;
@@ -245,7 +247,7 @@ fn with_channel(entry: ChannelEntry, settings: Settings) -> Settings
 // Settings with what the whole entry at a place says.
 fn with_entry(section: Section, file: &[u8], at: usize, settings: Settings) -> Settings
     requires { ⌜ (at + entrySize section ≤ length (now file)) × (entryWithin section (drop at (now file)) ≡ true) ⌝ }
-    ensures { λ r. ⌜ r ≡ withEntry section (drop at (now (file .entry))) settings ⌝ }
+    ensures { λ r. ⌜ r ≡ settingsWith section (drop at (now (file .entry))) settings ⌝ }
 {
     match section {
         Section::Zones => with_zone(zone_entry_at(file, at), settings),
@@ -374,7 +376,33 @@ pub fn label_allowed(label: &[u8]) -> bool
     is_printable(label)
 }
 
-// The label from a place on, which ends the file; the next byte is then its first.
+// What is answered for the label from a place on, which ends the file.
+fn label_reply(file: &[u8], at: usize) -> SetupReply
+    requires { ⌜ at ≤ length (now file) ⌝ }
+    ensures reply { λ r. ⌜ ((s : Settings) → replied r (s, drop (at + 1) (now (file .entry))) ≡ labelRead s (drop at (now (file .entry)))) ⌝ }
+    ensures inside { λ r. ⌜ (r ≡ Read → at < length (now (file .entry))) ⌝ }
+{
+    if file.len() == at {
+        return SetupReply::WrongLength;
+    }
+    let count = file[at] as usize;
+    let left = file.len() - at - 1;
+    if 32 < count {
+        return SetupReply::OutOfRange;
+    }
+    if left < count {
+        return SetupReply::WrongLength;
+    }
+    if !is_printable(&file[at + 1..at + 1 + count]) {
+        return SetupReply::OutOfRange;
+    }
+    if count < left {
+        return SetupReply::WrongLength;
+    }
+    SetupReply::Read
+}
+
+// The label from a place on; the next byte is then its first.
 fn read_label(file: &[u8], from: Progress) -> Progress
     requires { ⌜ from .at ≤ length (now file) ⌝ }
     ensures reading { λ r. ⌜ progressOf r (now (file .entry)) ≡ labelRead (from .settings) (drop (from .at) (now (file .entry))) ⌝ }
@@ -382,45 +410,16 @@ fn read_label(file: &[u8], from: Progress) -> Progress
 {
     let at = from.at;
     let settings = from.settings;
-    if file.len() == at {
+    let reply = label_reply(file, at);
+    let SetupReply::Read = reply else {
         return Progress {
-            reply: SetupReply::WrongLength,
+            reply,
             settings,
             at,
         };
-    }
-    let count = file[at] as usize;
-    let left = file.len() - at - 1;
-    if 32 < count {
-        return Progress {
-            reply: SetupReply::OutOfRange,
-            settings,
-            at,
-        };
-    }
-    if left < count {
-        return Progress {
-            reply: SetupReply::WrongLength,
-            settings,
-            at,
-        };
-    }
-    if !is_printable(&file[at + 1..at + 1 + count]) {
-        return Progress {
-            reply: SetupReply::OutOfRange,
-            settings,
-            at,
-        };
-    }
-    if count < left {
-        return Progress {
-            reply: SetupReply::WrongLength,
-            settings,
-            at,
-        };
-    }
+    };
     Progress {
-        reply: SetupReply::Read,
+        reply,
         settings,
         at: at + 1,
     }

@@ -1,7 +1,7 @@
 -- What the writer of a setup file answers, test by test, and what a count says.
 -- Assumes nothing.
 use Prim.Native.Nat.{ℕ, _<_, _≤_}
-use mathlib.Core.Path.{_≡_, refl, sym}
+use mathlib.Core.Path.{_≡_, refl}
 use mathlib.Core.Bool.{Bool, true, false}
 use mathlib.Core.List.{List}
 use native.Mathlib.Omega.{arith}
@@ -9,7 +9,7 @@ use lib.Dec.{ltb}
 use lib.ListN.{length}
 use borrow.Author.Tests.{lt-ltb, le-ltb, ltb-false}
 use Rattle.ump.specs.Choice.{if_then_else_}
-use Rattle.ump.specs.Outcome.{Outcome, given, outOfRange, tooSmall}
+use Rattle.ump.specs.Outcome.{given, outOfRange, tooSmall}
 use Rattle.settings.specs.declared.Settings.{Settings}
 use Rattle.settings.specs.Settings.{allowed}
 use Rattle.setup_file.specs.Format.{labelAllowed, setupFile}

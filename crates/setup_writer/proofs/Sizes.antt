@@ -1,9 +1,9 @@
 -- How long a setup file is.
 -- Assumes nothing.
 use Prim.Native.Nat.{ℕ, zero, suc, _+_, _*_, _≤_}
-use mathlib.Core.Path.{_≡_, refl, sym, ap, _∙_}
+use mathlib.Core.Path.{_≡_, sym, ap, _∙_}
 use mathlib.Core.Bool.{true, false}
-use mathlib.Core.List.{List, [], _∷_, _++_, flatten}
+use mathlib.Core.List.{List, _∷_, _++_, flatten}
 use native.Mathlib.Omega.{arith}
 use native.Mathlib.Nat.{mul-zero, mul-suc}
 use lib.Dec.{ltb}
@@ -15,7 +15,6 @@ use Rattle.settings.proofs.Allowed.{passed}
 use Rattle.setup_file.specs.declared.Section.{Section}
 use Rattle.setup_file.specs.declared.Section.the-variants.{Zones, Channels}
 use Rattle.setup_file.specs.Format.{entrySize, entryOf, unlisted, entriesFrom, entriesOf, sectionOf, mostLabel, printable, labelAllowed, setupFile}
-use Rattle.setup_file.specs.Claims.{Writable}
 use Rattle.setup_writer.specs.Reply.{FileSizes}
 use Rattle.setup_writer.proofs.Entries.{entry-long, count-at-most}
 

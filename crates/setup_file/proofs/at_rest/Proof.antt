@@ -1,3 +1,5 @@
+-- `setup_file::at_rest` meets its contract: each test in its turn.
+-- Assumes nothing.
 use Rattle.ump.proofs.Auto.{auto}
 use Rattle.setup_file.specs.Format.{atRest}
 use Rattle.setup_file.proofs.at_rest.Statement.{statement}

@@ -1,3 +1,5 @@
+-- `setup_file::channel_entry_within` meets its contract: each test in its turn.
+-- Assumes nothing.
 use Rattle.ump.proofs.Auto.{auto}
 use Rattle.setup_file.specs.Format.{channelEntryWithin}
 use Rattle.setup_file.proofs.channel_entry_within.Statement.{statement}

@@ -1,3 +1,5 @@
+-- `setup_file::entry_within` meets its contract: by the section.
+-- Assumes nothing.
 use mathlib.Core.Path.{_≡_, refl}
 use Rattle.setup_file.specs.declared.Section.the-variants.{Zones, Channels}
 use borrow.Author.Needs.{needs}

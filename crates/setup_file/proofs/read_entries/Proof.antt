@@ -8,11 +8,11 @@ use Rattle.setup_file.specs.declared.SetupReply.{SetupReply}
 use mathlib.Core.Path.{sym, ap, _∙_}
 use Rattle.ump.specs.Outcome.{given}
 use Rattle.setup_file.specs.declared.SetupReply.the-variants as setupReply
-use Rattle.setup_file.specs.Format.{entrySize, numberIn, withEntry}
+use Rattle.setup_file.specs.Format.{numberIn}
 use Rattle.setup_file.specs.Read.{entryRead, replied}
 use Rattle.setup_file.proofs.Onward.{here, entries-on, one-left, entries-refused}
 use Prim.Native.Nat.{_-_, _<_, _≤_}
-use mathlib.Core.Path.{_≡_, refl}
+use mathlib.Core.Path.{_≡_}
 use lib.ListN.{length, drop}
 use native.Mathlib.Nat.{sub-zero}
 use native.Mathlib.Omega.{arith}

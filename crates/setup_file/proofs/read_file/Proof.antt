@@ -1,7 +1,7 @@
 -- `setup_file::read_file` meets its contract: zones, channels, label.
 -- Assumes nothing.
 use Prim.Native.Nat.{ℕ}
-use mathlib.Core.Path.{_≡_, _∙_}
+use mathlib.Core.Path.{_∙_}
 use mathlib.Core.List.{List}
 use Rattle.ump.specs.Outcome.{Outcome}
 use Rattle.settings.specs.declared.Settings.{Settings}

@@ -1,7 +1,7 @@
 -- `setup_file::read_zones` meets its contract: the section, and then its pair.
 -- Assumes nothing.
 use mathlib.Core.Path.{_≡_, sym, ap, _∙_}
-use mathlib.Core.Bool.{true, false}
+use mathlib.Core.Bool.{false}
 use Rattle.ump.specs.Choice.{if_then_else_}
 use Rattle.ump.specs.Outcome.{Outcome, given, outOfRange}
 use mathlib.Core.List.{List}

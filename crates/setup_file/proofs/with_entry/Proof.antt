@@ -2,11 +2,9 @@
 -- Assumes nothing.
 -- `setup_file::with_entry` meets its contract: the entry of the section at the place, put into the settings.
 -- Assumes nothing.
-use Prim.Native.Nat.{_<_}
 use mathlib.Core.Bool.{true}
-use mathlib.Core.List.{List}
 use native.Mathlib.Omega.{arith}
-use lib.ListN.{getD, drop}
+use lib.ListN.{drop}
 use Rattle.setup_file.specs.Format.{entryWithin}
 use Rattle.setup_file.proofs.Entries.{within-number, channel-within}
 use mathlib.Core.Path.{_≡_, refl}

@@ -1,3 +1,5 @@
+-- `setup_file::zone_entry_at` meets its contract: the bytes at the place, as the fields of a record.
+-- Assumes nothing.
 use Rattle.setup_file.proofs.Places.{zone-entry-here}
 use borrow.Author.Needs.{needs}
 use Rattle.setup_file.proofs.zone_entry_at.Statement.{statement}

@@ -1,3 +1,5 @@
+-- `setup_file::zone_entry_within` meets its contract: each test in its turn.
+-- Assumes nothing.
 use Rattle.ump.proofs.Auto.{auto}
 use Rattle.setup_file.specs.Format.{zoneEntryWithin}
 use borrow.Author.Needs.{needs}

@@ -1,6 +1,6 @@
 -- `setup_writer::entry_count` meets its contract: after k turns the entries of the numbers below k are counted.
 -- Assumes nothing.
-use Prim.Native.Nat.{_-_, _<_, _≤_, _+_}
+use Prim.Native.Nat.{_-_, _<_, _≤_}
 use mathlib.Core.Path.{_≡_, refl, sym, ap, _∙_}
 use native.Mathlib.Omega.{arith}
 use lib.ListN.{length, length-append}

@@ -1,13 +1,10 @@
 -- `setup_writer::put_listed` meets its contract: nothing, or the entry.
 -- Assumes nothing.
-use Prim.Native.Nat.{_+_, _≤_}
-use mathlib.Core.Path.{_≡_, refl, sym, ap, _∙_}
-use mathlib.Core.Bool.{true, false}
-use mathlib.Core.List.{List, [], flatten}
+use Prim.Native.Nat.{_+_}
+use mathlib.Core.Path.{refl, sym, ap, _∙_}
 use native.Mathlib.Nat.{add-zero}
 use lib.ListN.{length}
-use lib.Seq.{sets}
-use Rattle.setup_file.specs.Format.{entrySize, unlisted, entryOf, entriesFrom}
+use Rattle.setup_file.specs.Format.{unlisted}
 use Rattle.setup_writer.proofs.Entries.{unlisted-bytes, listed-bytes, entry-long}
 use borrow.Author.Needs.{needs}
 use Rattle.setup_writer.proofs.put_listed.Statement.{statement}

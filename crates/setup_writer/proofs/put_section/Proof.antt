@@ -2,15 +2,15 @@
 -- Assumes nothing.
 use Prim.Native.Nat.{_+_, _-_, _<_, _≤_}
 use mathlib.Core.Path.{_≡_, refl, sym, ap, _∙_}
-use mathlib.Core.List.{List, [], _∷_, _++_, flatten}
+use mathlib.Core.List.{flatten}
 use native.Mathlib.Omega.{arith}
 use native.Mathlib.Numerals.{add-one}
 use lib.ListN.{length, set, length-set, length-append}
 use lib.Seq.{sets, length-sets}
 use borrow.Author.Needs.{needs}
 use Rattle.restatement.proofs.Sets.{sets-append}
-use Rattle.setup_file.specs.Format.{most, entriesFrom, entriesOf, sectionOf}
-use Rattle.setup_writer.proofs.Entries.{most-small, next-bytes, next-fits}
+use Rattle.setup_file.specs.Format.{most, entriesFrom, entriesOf}
+use Rattle.setup_writer.proofs.Entries.{next-bytes, next-fits}
 use Rattle.setup_writer.proofs.put_section.Statement.{statement}
 use Rattle.setup_writer.proofs.put_section.Tie as tie
 

@@ -1,10 +1,9 @@
 -- `setup_writer::setup_bytes` meets its contract: refused, too small, or the file; and the reader takes the bytes that were written.
 -- Assumes nothing.
-use Prim.Native.Nat.{ℕ, suc, _+_, _<_, _≤_}
+use Prim.Native.Nat.{ℕ, _+_}
 use mathlib.Core.Path.{_≡_, refl, sym, ap, _∙_}
-use mathlib.Core.List.{List, _∷_, _++_}
+use mathlib.Core.List.{_∷_, _++_}
 use native.Mathlib.Omega.{arith}
-use native.Mathlib.Nat.{zero-add}
 use lib.ListN.{length, take, drop, length-append}
 use lib.Seq.{sets, length-sets}
 use Rattle.ump.specs.Outcome.{Outcome, given}

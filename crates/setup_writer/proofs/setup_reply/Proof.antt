@@ -1,11 +1,9 @@
 -- `setup_writer::setup_reply` meets its contract: the settings, the label, and then the room.
 -- Assumes nothing.
-use Prim.Native.Nat.{_≤_}
-use mathlib.Core.Path.{_≡_, sym, _∙_}
+use mathlib.Core.Path.{sym, _∙_}
 use mathlib.Core.Bool.{true, false}
 use borrow.Author.Tests.{not-true, not-false}
 use Rattle.settings.specs.Settings.{allowed}
-use Rattle.setup_file.specs.Format.{labelAllowed}
 use Rattle.setup_writer.proofs.Sizes.{label-at-most, file-size}
 use Rattle.setup_writer.proofs.Replies.{settings-refused, label-refused, too-small, fitting}
 use borrow.Author.Needs.{needs}
