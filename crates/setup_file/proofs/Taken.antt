@@ -1,15 +1,14 @@
 -- One entry: when it is taken, and that every listed entry of allowed settings is.
 -- Assumes nothing.
 use Prim.Native.Nat.{ℕ, _/_, _%_, _^_, _<_, _≤_}
-use mathlib.Core.Path.{_≡_, refl, ap, sym, _∙_}
-use mathlib.Core.Bool.{Bool, true, false}
+use mathlib.Core.Path.{_≡_, ap, sym, _∙_}
+use mathlib.Core.Bool.{true, false}
 use mathlib.Core.List.{List, _++_}
 use native.Mathlib.Omega.{arith}
 use lib.Dec.{ltb, eqb}
 use lib.ListN.{length}
 use borrow.Author.Tests.{ltb-false, le-ltb}
-use Rattle.ump.specs.Choice.{if_then_else_}
-use Rattle.ump.specs.Outcome.{given, outOfRange}
+use Rattle.ump.specs.Outcome.{given}
 use Rattle.ump.proofs.Cases.{by-test}
 use Rattle.mpe_layout.specs.declared.MpeZone.the-variants.{Lower, Upper}
 use Rattle.mpe_layout.proofs.Legal.{members-le}
@@ -19,7 +18,7 @@ use Rattle.settings.proofs.Allowed.{parts, allowed-channel}
 use Rattle.setup_file.specs.declared.Section.{Section}
 use Rattle.setup_file.specs.declared.Section.the-variants.{Zones, Channels}
 use Rattle.setup_file.specs.Format.{most, entrySize, numberIn, zoneEntryWithin, channelEntryWithin, entryWithin, unlisted, entryOf}
-use Rattle.setup_file.specs.Read.{wrongLength, outOfOrder, entryRead}
+use Rattle.setup_file.specs.Read.{entryRead}
 use Rattle.setup_file.proofs.Outcomes.{same-given, not-given}
 use Rattle.setup_file.proofs.Entries.{own-front, own-long, own-number, within-front, unlisted-front}
 
@@ -38,19 +37,18 @@ taken-read section least l t =
 pub read-taken : (section : Section) (least : ℕ) (l : List ℕ) {n : ℕ} → entryRead section least l ≡ given n → Taken section least l × (n ≡ numberIn l)
 unfolding entryRead
 read-taken section least l {n} e =
-    let c = cases (ltb (length l) (entrySize section)) (entryWithin section l) (ltb (numberIn l) least) (unlisted section l) (numberIn l) n e in (
-      record { long = ltb-false _ _ (c .0); within = c .1; rising = ltb-false _ _ (c .2); listed = c .3 },
-      c .4,
-    )
-  where
-    cases : (a b c d : Bool) (m n : ℕ)
-        → (if a then wrongLength else if b then (if c then outOfOrder else if d then outOfOrder else given m) else outOfRange) ≡ given n
-        → (a ≡ false) × (b ≡ true) × (c ≡ false) × (d ≡ false) × (n ≡ m)
-    cases true b c d m n e = not-given e
-    cases false false c d m n e = not-given e
-    cases false true true d m n e = not-given e
-    cases false true false true m n e = not-given e
-    cases false true false false m n e = (refl, refl, refl, refl, same-given n m (sym e))
+    by-test (ltb (length l) (entrySize section))
+    (λ short. not-given (rw short at e))
+    (λ long. by-test (entryWithin section l)
+    (λ within. by-test (ltb (numberIn l) least)
+    (λ low. not-given (rw (long, within, low) at e))
+    (λ rising. by-test (unlisted section l)
+    (λ rest. not-given (rw (long, within, rising, rest) at e))
+    (λ listed. (
+      record { long = ltb-false _ _ long; within = within; rising = ltb-false _ _ rising; listed = listed },
+      sym (same-given (numberIn l) n (rw (long, within, rising, listed) at e)),
+    ))))
+    (λ outside. not-given (rw (long, outside) at e)))
 
 -- what allowed settings list is inside its limits
 own-within : (section : Section) (s : Settings) (k : ℕ) → allowed s ≡ true → k < most section → unlisted section (entryOf section s k) ≡ false
