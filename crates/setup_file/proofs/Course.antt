@@ -8,6 +8,7 @@ use Rattle.settings.specs.declared.Settings.{Settings}
 use Rattle.settings.specs.Messages.{restatement}
 use Rattle.settings.specs.Demand.{Demand}
 use Rattle.settings.proofs.Demand.{demand-holds}
+use Rattle.settings.proofs.Witnesses.{demand-met}
 use Rattle.setup_file.specs.Read.{fileRead}
 use Rattle.setup_file.specs.Claims.{CourseShown}
 use Rattle.setup_file.proofs.OnlyForm.{rewritten}
@@ -25,4 +26,5 @@ course-shown file =
       both-answer = λ s label e one other one-calls other-calls later as-new arrive as-new′ arrive′.
           let d = read-demand file s label e in
           d .answered-alike one one-calls later as-new arrive ∙ sym (d .answered-alike other other-calls later as-new′ arrive′);
+      met = λ s label e. demand-met s (rewritten file s label e .writable .settings-allowed);
     }

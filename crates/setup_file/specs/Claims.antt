@@ -13,6 +13,7 @@ use Rattle.settings.specs.declared.Settings.{Settings}
 use Rattle.settings.specs.Settings.{allowed}
 use Rattle.settings.specs.Messages.{restatement}
 use Rattle.settings.specs.Demand.{SwitchesAsNew, Arrives, Shown}
+use Rattle.settings.specs.Witnesses.{Met}
 use Rattle.setup_file.specs.Format.{labelAllowed, setupFile, seen}
 use Rattle.setup_file.specs.Read.{wrongLength, outOfOrder, fileRead}
 
@@ -68,3 +69,5 @@ pub record CourseShown (file : List ℕ) : Type 0 where
       → SwitchesAsNew (after newEnd one) → Arrives (restatement s) one-calls
       → SwitchesAsNew (after newEnd other) → Arrives (restatement s) other-calls
       → answers (after (after newEnd one) one-calls) later ≡ answers (after (after newEnd other) other-calls) later
+  -- lists of calls that meet these conditions
+  pub met : (s : Settings) (label : List ℕ) → fileRead file ≡ given (s, label) → Met s (restatement s)
