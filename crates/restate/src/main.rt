@@ -5,8 +5,8 @@ use libc::STDIN_FILENO;
 use libc::STDOUT_FILENO;
 use restatement::restatement_bytes;
 use settings::Settings;
-use setup_file::SetupReply;
-use setup_file::setup_settings;
+use setup_reader::SetupReply;
+use setup_reader::setup_settings;
 use zone_sender::Written;
 
 fn complain(line: &[u8]) {

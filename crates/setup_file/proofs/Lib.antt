@@ -1,4 +1,4 @@
--- Laws of the setup file, of settings in it, and of its reader.
+-- Laws of the setup file and of settings in it.
 pub mod Outcomes
 pub mod Entries
 pub mod Taken
@@ -8,8 +8,5 @@ pub mod OnlyForm
 pub mod Course
 pub mod Seen
 pub mod Leftmost
-pub mod Places
-pub mod Refusals
-pub mod Onward
-pub mod Sections
 pub mod Examples
+pub mod Printable

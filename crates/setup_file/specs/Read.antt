@@ -10,9 +10,6 @@ use Rattle.settings.specs.declared.Settings.{Settings}
 use Rattle.settings.specs.Settings.{newSettings}
 use Rattle.setup_file.specs.declared.Section.{Section}
 use Rattle.setup_file.specs.declared.Section.the-variants.{Zones, Channels}
-use Rattle.setup_file.specs.declared.SetupReply.{SetupReply}
-use Rattle.setup_file.specs.declared.SetupReply.the-variants as setupReply
-use Rattle.setup_file.specs.declared.Progress.{Progress}
 use Rattle.setup_file.specs.Format.{most, entrySize, numberIn, entryWithin, unlisted, settingsWith, mostLabel, printable}
 
 -- 4, the file ends before or inside a section, or goes on after the label
@@ -80,14 +77,3 @@ settingsOrNew (declined n v) = newSettings
 abbrev pub labelIn : Outcome (Settings × List ℕ) → List ℕ
 labelIn (given r) = r .1
 labelIn (declined n v) = []
-
--- the reading of a reply, with what was read
-abbrev pub replied : {A : Type 0} → SetupReply → A → Outcome A
-replied setupReply.Read a = given a
-replied setupReply.OutOfRange a = outOfRange
-replied setupReply.WrongLength a = wrongLength
-replied setupReply.OutOfOrder a = outOfOrder
-
--- how far a file has been read: the settings so far, and the bytes from the place of the next one on
-abbrev pub progressOf : Progress → List ℕ → Outcome (Settings × List ℕ)
-progressOf p file = replied (p .reply) (p .settings, drop (p .at) file)

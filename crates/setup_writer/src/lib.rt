@@ -17,17 +17,8 @@ use settings::Settings;
 use settings::ZoneSettings;
 use setup_file::Section;
 use setup_file::label_allowed;
+use setup_file::most_entries;
 use zone_sender::Written;
-
-// How many numbers a section has.
-fn most_entries(section: Section) -> u8
-    ensures { λ r. ⌜ r ≡ most section ⌝ }
-{
-    match section {
-        Section::Zones => 2,
-        Section::Channels => 16,
-    }
-}
 
 // The members of zone 0, Lower, or 1, Upper.
 fn members_numbered(settings: Settings, number: u8) -> u8

@@ -6,7 +6,7 @@ use native.Mathlib.Omega.{arith}
 use lib.ListN.{length, drop}
 use borrow.Author.Needs.{needs}
 use Rattle.setup_file.specs.Format.{printable}
-use Rattle.setup_file.proofs.Sections.{printable-end, printable-low, printable-high, printable-next}
+use Rattle.setup_file.proofs.Printable.{printable-end, printable-low, printable-high, printable-next}
 use Rattle.setup_file.proofs.is_printable.Statement.{statement}
 use Rattle.setup_file.proofs.is_printable.Tie as tie
 
