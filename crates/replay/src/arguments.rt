@@ -4,7 +4,7 @@ use parameter_event::Parameter;
 use parameter_event::ParameterChange;
 use ump::controller::Rpn;
 
-// An item's operation and its first ten bytes of arguments: all that an item has but for a settings record.
+// An item's operation and its first ten bytes of arguments: all that an item has but for a settings record and a file.
 pub(crate) struct Item {
     pub(crate) operation: u8,
     pub(crate) a1: u8,
@@ -21,7 +21,7 @@ pub(crate) struct Item {
 
 impl Item {
     // The item of these bytes.
-    pub(crate) fn of(bytes: &[u8; 80]) -> Item {
+    pub(crate) fn of(bytes: &[u8; 515]) -> Item {
         Item {
             operation: bytes[0],
             a1: bytes[1],

@@ -62,18 +62,31 @@ impl Line {
         line
     }
 
-    // The refusal 1, out of range.
-    pub(crate) fn out_of_range() -> Line {
-        let mut line = Line::one(1);
+    // A refusal by its number.
+    fn refusal(number: u32) -> Line {
+        let mut line = Line::one(number);
         line.marks[0] = REFUSAL;
         line
     }
 
+    // The refusal 1, out of range.
+    pub(crate) fn out_of_range() -> Line {
+        Line::refusal(1)
+    }
+
     // The refusal 3, none.
     pub(crate) fn none() -> Line {
-        let mut line = Line::one(3);
-        line.marks[0] = REFUSAL;
-        line
+        Line::refusal(3)
+    }
+
+    // The refusal 4, wrong length.
+    pub(crate) fn wrong_length() -> Line {
+        Line::refusal(4)
+    }
+
+    // The refusal 5, out of order.
+    pub(crate) fn out_of_order() -> Line {
+        Line::refusal(5)
     }
 
     // One cell more.

@@ -13,6 +13,7 @@ mod receiver_items;
 mod restatement_items;
 mod run;
 mod sender_items;
+mod setup_items;
 mod states;
 mod tokens;
 mod translation_items;
@@ -29,7 +30,7 @@ fn unreadable(run: Run) -> Run {
 }
 
 // Reads once and answers the items that came whole. Keeping the loop out of it keeps the buffer out of the loop.
-fn read_some(run: Run, item: &mut [u8; 80], buffer: &mut [u8; 4096]) -> Run {
+fn read_some(run: Run, item: &mut [u8; 515], buffer: &mut [u8; 4096]) -> Run {
     let mut text = io::buffer();
     let got = libc::read(STDIN_FILENO, &mut text);
     if got < 0 {
@@ -44,7 +45,7 @@ fn read_some(run: Run, item: &mut [u8; 80], buffer: &mut [u8; 4096]) -> Run {
 
 // A proved loop has to end, and nothing says that the input does: the loop counts its reads down, from a number that no run uses up.
 fn main() {
-    let mut item = [0u8; 80];
+    let mut item = [0u8; 515];
     let mut buffer = io::buffer();
     let mut run = Run::new();
     let mut turns = u64::MAX;

@@ -131,7 +131,7 @@ impl Out {
     }
 
     // A space and a word.
-    fn word(self, buffer: &mut [u8; 4096], word: u32) -> Out {
+    pub(crate) fn word(self, buffer: &mut [u8; 4096], word: u32) -> Out {
         self.marked(buffer, b' ', word as u64)
     }
 

@@ -13,7 +13,7 @@ use zone_sender::Written;
 ghost use Prim.Native.Nat.{_≤_};
 
 // The bytes and the words of a buffer before a call.
-const BYTE_BEFORE: u8 = 0xA5;
+pub(crate) const BYTE_BEFORE: u8 = 0xA5;
 
 const WORD_BEFORE: u32 = 0x2FEF7F7F;
 
@@ -35,7 +35,7 @@ fn zone(s: u8, t: u8, a: u8, b: u8, mode: u8) -> ZoneSettings {
 }
 
 // S without its channels.
-fn zones(item: &[u8; 80]) -> Settings {
+fn zones(item: &[u8; 515]) -> Settings {
     let layout = MpeLayout {
         lower: item[1],
         upper: item[2],
@@ -50,7 +50,7 @@ fn zones(item: &[u8; 80]) -> Settings {
 }
 
 // S, a settings record.
-fn settings(item: &[u8; 80]) -> Settings {
+pub(crate) fn settings(item: &[u8; 515]) -> Settings {
     let mut settings = zones(item);
     let mut k = 0;
     while k < 16 {
@@ -63,8 +63,8 @@ fn settings(item: &[u8; 80]) -> Settings {
     settings
 }
 
-// The length of a buffer: an item with a larger one is not answered.
-fn buffer_length(n: u16, most: usize) -> usize
+// The length of a buffer or a file: an item with a larger one is not answered.
+pub(crate) fn buffer_length(n: u16, most: usize) -> usize
     ensures { λ r. ⌜ r ≤ most ⌝ }
 {
     let length = n as usize;
@@ -75,31 +75,31 @@ fn buffer_length(n: u16, most: usize) -> usize
 }
 
 // Writes the answer of item 70 and its buffer.
-fn bytes_into(out: Out, item: &[u8; 80], bytes: &mut [u8], buffer: &mut [u8; 4096]) -> Out {
+fn bytes_into(out: Out, item: &[u8; 515], bytes: &mut [u8], buffer: &mut [u8; 4096]) -> Out {
     let written = restatement_bytes(settings(item), bytes);
     out.written(buffer, written).bytes(buffer, bytes)
 }
 
-fn bytes_answer(out: Out, item: &[u8; 80], buffer: &mut [u8; 4096]) -> Out {
+fn bytes_answer(out: Out, item: &[u8; 515], buffer: &mut [u8; 4096]) -> Out {
     let n = buffer_length(arguments::two(item[77], item[78]), 1024);
     let mut bytes = [BYTE_BEFORE; 1024];
     bytes_into(out, item, &mut bytes[..n], buffer)
 }
 
 // Writes the answer of item 71 and its buffer.
-fn words_into(out: Out, item: &[u8; 80], words: &mut [u32], buffer: &mut [u8; 4096]) -> Out {
+fn words_into(out: Out, item: &[u8; 515], words: &mut [u32], buffer: &mut [u8; 4096]) -> Out {
     let written = restatement_words(settings(item), words);
     out.written(buffer, written).words(buffer, words)
 }
 
-fn words_answer(out: Out, item: &[u8; 80], buffer: &mut [u8; 4096]) -> Out {
+fn words_answer(out: Out, item: &[u8; 515], buffer: &mut [u8; 4096]) -> Out {
     let n = buffer_length(arguments::two(item[77], item[78]), 256);
     let mut words = [WORD_BEFORE; 256];
     words_into(out, item, &mut words[..n], buffer)
 }
 
 // Answers items 70 and 71.
-pub(crate) fn answer(out: Out, item: &[u8; 80], buffer: &mut [u8; 4096]) -> Out {
+pub(crate) fn answer(out: Out, item: &[u8; 515], buffer: &mut [u8; 4096]) -> Out {
     if item[0] == 0x70 {
         return bytes_answer(out, item, buffer);
     }
@@ -124,7 +124,7 @@ fn after(end: End, written: Written, bytes: &[u8]) -> End {
 }
 
 // The end after item 72.
-pub(crate) fn received(end: End, item: &[u8; 80]) -> End {
+pub(crate) fn received(end: End, item: &[u8; 515]) -> End {
     let mut bytes = [BYTE_BEFORE; 1024];
     let written = restatement_bytes(settings(item), &mut bytes);
     after(end, written, &bytes)

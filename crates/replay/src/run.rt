@@ -5,6 +5,7 @@ use crate::item::Found;
 use crate::out::Out;
 use crate::restatement_items;
 use crate::sender_items;
+use crate::setup_items;
 use crate::states::States;
 use libc::STDERR_FILENO;
 
@@ -16,20 +17,23 @@ pub(crate) struct Run {
     pub(crate) going: bool,
 }
 
-// An item of this operation has a buffer of its own.
-fn has_buffer(operation: u8) -> bool {
+// An item of this operation writes its answer itself: it has a buffer of its own, or more numbers than a line has cells.
+fn writes_itself(operation: u8) -> bool {
     match operation {
-        0x53 | 0x70 | 0x71 => true,
+        0x53 | 0x70 | 0x71 | 0x90 | 0x91 => true,
         _ => false,
     }
 }
 
-// Answers an item that has a buffer of its own.
-fn buffer_answer(out: Out, item: &[u8; 80], buffer: &mut [u8; 4096]) -> Out {
+// Answers such an item.
+fn written_answer(out: Out, item: &[u8; 515], buffer: &mut [u8; 4096]) -> Out {
     if item[0] == 0x53 {
         return sender_items::zone_answer(out, Item::of(item), buffer);
     }
-    restatement_items::answer(out, item, buffer)
+    if item[0] < 0x90 {
+        return restatement_items::answer(out, item, buffer);
+    }
+    setup_items::answer(out, item, buffer)
 }
 
 impl Run {
@@ -94,7 +98,7 @@ impl Run {
     }
 
     // Answers an item by a call on the states.
-    fn answer_call(self, item: &[u8; 80], buffer: &mut [u8; 4096]) -> Run {
+    fn answer_call(self, item: &[u8; 515], buffer: &mut [u8; 4096]) -> Run {
         let out = self.out;
         let states = self.states;
         let answered = states.answer(item);
@@ -106,10 +110,10 @@ impl Run {
     }
 
     // Answers a whole item.
-    fn answer(self, item: &[u8; 80], buffer: &mut [u8; 4096]) -> Run {
-        if has_buffer(item[0]) {
+    fn answer(self, item: &[u8; 515], buffer: &mut [u8; 4096]) -> Run {
+        if writes_itself(item[0]) {
             let out = self.out;
-            return self.with_line(buffer_answer(out, item, buffer), buffer);
+            return self.with_line(written_answer(out, item, buffer), buffer);
         }
         self.answer_call(item, buffer)
     }
@@ -118,7 +122,7 @@ impl Run {
     pub(crate) fn answer_all(
         self,
         text: &[u8],
-        item: &mut [u8; 80],
+        item: &mut [u8; 515],
         buffer: &mut [u8; 4096],
     ) -> Run {
         let mut run = self;

@@ -125,7 +125,7 @@ impl States {
     }
 
     // Gives the end a restatement.
-    fn answer_restated(self, bytes: &[u8; 80]) -> Answered {
+    fn answer_restated(self, bytes: &[u8; 515]) -> Answered {
         let end = self.end;
         let next = restatement_items::received(end, bytes);
         let mut states = self;
@@ -158,7 +158,7 @@ impl States {
     }
 
     // Makes the call of a whole item.
-    pub(crate) fn answer(self, bytes: &[u8; 80]) -> Answered {
+    pub(crate) fn answer(self, bytes: &[u8; 515]) -> Answered {
         if bytes[0] < 0x70 {
             return self.answer_item(Item::of(bytes));
         }
