@@ -21,7 +21,7 @@ fn write_first(bytes: &[u8], n: usize) -> bool {
     io::write_all(STDOUT_FILENO, &bytes[..n])
 }
 
-// The restatement of settings that were read: they are legal, and no restatement is longer than the buffer.
+// The restatement of settings that were read. They are legal and no restatement is longer than the buffer, so that it is always written.
 fn restate(settings: Settings) {
     let mut out = io::buffer();
     let reply = restatement_bytes(settings, &mut out);
@@ -33,7 +33,8 @@ fn restate(settings: Settings) {
     }
 }
 
-// A setup file has at most 129 bytes: what stands behind the buffer changes no reply.
+// A setup file has at most 129 bytes: what stands behind the buffer changes no reply. The second read tells an input that cannot be read from one that
+// has ended.
 fn main() {
     let mut file = io::buffer();
     let mut rest = io::buffer();

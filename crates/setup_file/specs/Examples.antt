@@ -2,11 +2,12 @@
 use Prim.Native.Nat.{ℕ}
 use mathlib.Core.Path.{_≡_}
 use mathlib.Core.List.{List, [], _∷_, _++_, map}
-use Rattle.ump.specs.Outcome.{Outcome, given, outOfRange}
+use lib.ListN.{replicate}
+use Rattle.ump.specs.Outcome.{Outcome, given, declined}
+use Rattle.mpe_layout.specs.Layout.{layoutOf}
 use Rattle.settings.specs.declared.Settings.{Settings}
-use Rattle.settings.specs.Settings.{newZone, newSettings}
-use Rattle.setup_file.specs.Format.{withZone, withChannel}
-use Rattle.setup_file.specs.Read.{wrongLength, outOfOrder, fileRead}
+use Rattle.settings.specs.Settings.{newSettings}
+use Rattle.setup_file.specs.Read.{fileRead}
 
 pub record FileExample : Type 0 where
   pub file : List ℕ
@@ -16,8 +17,11 @@ abbrev example : List ℕ → Outcome (Settings × List ℕ) → FileExample
 example f a = record { file = f; answer = a }
 
 -- entries: Lower or Upper with so many members, 2/0, 48/0, mode 3; a channel that is bent by a quarter of the range; one at rest
+abbrev zoneOfMode : ℕ → ℕ → ℕ → List ℕ
+zoneOfMode number members mode = number ∷ members ∷ 2 ∷ 0 ∷ 48 ∷ 0 ∷ mode ∷ []
+
 abbrev zoneWith : ℕ → ℕ → List ℕ
-zoneWith number members = number ∷ members ∷ 2 ∷ 0 ∷ 48 ∷ 0 ∷ 3 ∷ []
+zoneWith number members = zoneOfMode number members 3
 
 abbrev bentChannel : ℕ → List ℕ
 bentChannel number = number ∷ 0x50 ∷ 0 ∷ 0 ∷ 64 ∷ []
@@ -25,34 +29,56 @@ bentChannel number = number ∷ 0x50 ∷ 0 ∷ 0 ∷ 64 ∷ []
 abbrev restingChannel : ℕ → List ℕ
 restingChannel number = number ∷ 0x40 ∷ 0 ∷ 0 ∷ 64 ∷ []
 
--- Lower with seven members, channel 3 bent, and a label of two bytes
+-- Both zones with other numbers in each field, channels 3 and 15, and a label; and the settings that it says, field by field.
 abbrev goodFile : List ℕ
-goodFile = 1 ∷ zoneWith 0 7 ++ 1 ∷ bentChannel 3 ++ 2 ∷ 0x49 ∷ 0x49 ∷ []
+goodFile =
+    2 ∷ (0 ∷ 7 ∷ 1 ∷ 2 ∷ 3 ∷ 4 ∷ 3 ∷ []) ++ (1 ∷ 6 ∷ 5 ∷ 6 ∷ 7 ∷ 8 ∷ 4 ∷ [])
+    ++ 2 ∷ (3 ∷ 0x50 ∷ 1 ∷ 9 ∷ 10 ∷ []) ++ (15 ∷ 0 ∷ 0x7F ∷ 11 ∷ 12 ∷ [])
+    ++ 2 ∷ 0x20 ∷ 0x7E ∷ []
 
 abbrev goodSettings : Settings
-goodSettings = withChannel 3 0x2800 0 64 (withZone 0 7 newZone newSettings)
+goodSettings =
+    record {
+      layout = layoutOf 7 6;
+      lower = record { manager = record { semitones = 1; cents = 2 }; member = record { semitones = 3; cents = 4 }; mode = 3 };
+      upper = record { manager = record { semitones = 5; cents = 6 }; member = record { semitones = 7; cents = 8 }; mode = 4 };
+      «pitch_bend» = replicate 3 0x2000 ++ 0x2801 ∷ replicate 11 0x2000 ++ 0x7F ∷ [];
+      pressure = replicate 3 0 ++ 9 ∷ replicate 11 0 ++ 11 ∷ [];
+      brightness = replicate 3 64 ++ 10 ∷ replicate 11 64 ++ 12 ∷ [];
+    }
+
+-- the refusals, by their numbers
+abbrev refusedBy : ℕ → Outcome (Settings × List ℕ)
+refusedBy n = declined n []
 
 unfoldable pub fileTable : List FileExample
 fileTable =
     example (0 ∷ 0 ∷ 0 ∷ []) (given (newSettings, []))
-    ∷ example goodFile (given (goodSettings, 0x49 ∷ 0x49 ∷ []))
-    ∷ example [] wrongLength
-    ∷ example (3 ∷ []) outOfRange
-    ∷ example (1 ∷ []) wrongLength
-    ∷ example (1 ∷ 0 ∷ 0 ∷ []) wrongLength
-    ∷ example (1 ∷ zoneWith 2 7) outOfRange
-    ∷ example (2 ∷ zoneWith 1 7 ++ zoneWith 0 7) outOfOrder
-    ∷ example (2 ∷ zoneWith 0 7 ++ zoneWith 0 7) outOfOrder
-    ∷ example (2 ∷ zoneWith 0 7 ++ zoneWith 0 16) outOfRange
-    ∷ example (2 ∷ zoneWith 0 8 ++ zoneWith 1 7) outOfRange
-    ∷ example (0 ∷ 17 ∷ []) outOfRange
-    ∷ example (0 ∷ 1 ∷ restingChannel 3) outOfOrder
-    ∷ example (0 ∷ 2 ∷ bentChannel 3 ++ bentChannel 3) outOfOrder
-    ∷ example (0 ∷ 0 ∷ 33 ∷ []) outOfRange
-    ∷ example (0 ∷ 0 ∷ 2 ∷ 0x49 ∷ []) wrongLength
-    ∷ example (0 ∷ 0 ∷ 2 ∷ 0x1F ∷ []) wrongLength
-    ∷ example (goodFile ++ 0 ∷ []) wrongLength
-    ∷ example (0 ∷ 0 ∷ 1 ∷ 0x1F ∷ 0 ∷ []) outOfRange
+    ∷ example goodFile (given (goodSettings, 0x20 ∷ 0x7E ∷ []))
+    ∷ example [] (refusedBy 4)
+    ∷ example (3 ∷ []) (refusedBy 1)
+    ∷ example (1 ∷ []) (refusedBy 4)
+    ∷ example (1 ∷ 0 ∷ 0 ∷ []) (refusedBy 4)
+    ∷ example (1 ∷ zoneWith 2 7) (refusedBy 1)
+    ∷ example (1 ∷ zoneWith 0 0) (refusedBy 1)
+    ∷ example (1 ∷ zoneOfMode 0 7 5) (refusedBy 1)
+    ∷ example (2 ∷ zoneWith 1 7 ++ zoneWith 0 7) (refusedBy 5)
+    ∷ example (2 ∷ zoneWith 0 7 ++ zoneWith 0 7) (refusedBy 5)
+    ∷ example (2 ∷ zoneWith 0 7 ++ zoneWith 0 16) (refusedBy 1)
+    ∷ example (2 ∷ zoneWith 0 8 ++ zoneWith 1 7) (refusedBy 1)
+    ∷ example (2 ∷ zoneWith 0 8 ++ 1 ∷ 7 ∷ []) (refusedBy 4)
+    ∷ example (2 ∷ zoneWith 1 8 ++ zoneWith 0 7) (refusedBy 5)
+    ∷ example (0 ∷ 17 ∷ []) (refusedBy 1)
+    ∷ example (0 ∷ 1 ∷ 16 ∷ []) (refusedBy 4)
+    ∷ example (0 ∷ 1 ∷ restingChannel 3) (refusedBy 5)
+    ∷ example (0 ∷ 1 ∷ restingChannel 16) (refusedBy 1)
+    ∷ example (0 ∷ 2 ∷ bentChannel 3 ++ bentChannel 3) (refusedBy 5)
+    ∷ example (0 ∷ 2 ∷ bentChannel 3 ++ 3 ∷ 0x50 ∷ 0 ∷ 128 ∷ 64 ∷ []) (refusedBy 1)
+    ∷ example (0 ∷ 0 ∷ 33 ∷ []) (refusedBy 1)
+    ∷ example (0 ∷ 0 ∷ 2 ∷ 0x49 ∷ []) (refusedBy 4)
+    ∷ example (0 ∷ 0 ∷ 2 ∷ 0x7F ∷ []) (refusedBy 4)
+    ∷ example (goodFile ++ 0 ∷ []) (refusedBy 4)
+    ∷ example (0 ∷ 0 ∷ 1 ∷ 0x1F ∷ 0 ∷ []) (refusedBy 1)
     ∷ []
 
 -- the reader answers so

@@ -21,7 +21,7 @@ use Rattle.setup_reader.specs.declared.SetupReply.the-variants as setupR
 use Rattle.setup_reader.specs.declared.Progress.{Progress}
 use Rattle.setup_file.specs.Format.{most, entrySize, numberIn, entryWithin, settingsWith}
 use Rattle.setup_file.specs.Read.{andThen, entryRead, entriesRead, settingsIn, settingsOrNew, labelIn}
-use Rattle.setup_reader.specs.Progress.{replied, progressOf}
+use Rattle.setup_reader.specs.Progress.{setupRead, progressOf}
 use Rattle.setup_reader.proofs.SetupReply.{the-type}
 use Rattle.setup_reader.proofs.Places.{getD-here}
 use Rattle.setup_file.proofs.Entries.{within-number}
@@ -35,13 +35,13 @@ not-read setupReply.WrongLength t e = let z : _≡_ {A = ℕ} 0 1 = cc in omega 
 not-read setupReply.OutOfOrder t e = let z : _≡_ {A = ℕ} 0 1 = cc in omega arith
 
 -- a reply that is a refusal is the answer of all that would follow
-pub refused : {A B : Type 0} (r : SetupReply) → OneOf (1 ∷ 2 ∷ 3 ∷ []) (tagOf the-type r) → (a : A) (b : B) (next : A → Outcome B) → replied r b ≡ andThen (replied r a) next
+pub refused : {A B : Type 0} (r : SetupReply) → OneOf (1 ∷ 2 ∷ 3 ∷ []) (tagOf the-type r) → (a : A) (b : B) (next : A → Outcome B) → setupRead r b ≡ andThen (setupRead r a) next
 refused setupReply.Read t a b next = absurd (not-read setupReply.Read t refl)
 refused setupReply.OutOfRange t a b next = refl
 refused setupReply.WrongLength t a b next = refl
 refused setupReply.OutOfOrder t a b next = refl
 
-pub refused-alike : {A : Type 0} (r : SetupReply) → OneOf (1 ∷ 2 ∷ 3 ∷ []) (tagOf the-type r) → (a b : A) → replied r a ≡ replied r b
+pub refused-alike : {A : Type 0} (r : SetupReply) → OneOf (1 ∷ 2 ∷ 3 ∷ []) (tagOf the-type r) → (a b : A) → setupRead r a ≡ setupRead r b
 refused-alike setupReply.Read t a b = absurd (not-read setupReply.Read t refl)
 refused-alike setupReply.OutOfRange t a b = refl
 refused-alike setupReply.WrongLength t a b = refl
@@ -89,7 +89,7 @@ one-left section count k least s b h = ap (λ n. entriesRead section n least s b
 
 -- an entry is refused
 pub entries-refused : (section : Section) (left least : ℕ) (s : Settings) (b : List ℕ) (r : SetupReply) → OneOf (1 ∷ 2 ∷ 3 ∷ []) (tagOf the-type r)
-    → replied r (numberIn b) ≡ entryRead section least b → (p : Settings × List ℕ) → replied r p ≡ entriesRead section (suc left) least s b
+    → setupRead r (numberIn b) ≡ entryRead section least b → (p : Settings × List ℕ) → setupRead r p ≡ entriesRead section (suc left) least s b
 unfolding entriesRead
 entries-refused section left least s b r t e p =
     refused r t (numberIn b) p (λ n. entriesRead section left (suc n) (settingsWith section b s) (drop (entrySize section) b))
@@ -104,14 +104,14 @@ stopped p l next t e =
 pub went-on : (p : Progress) (l : List ℕ) {o : Outcome (Settings × List ℕ)} (next : Settings × List ℕ → Outcome (Settings × List ℕ))
     → p .reply ≡ setupReply.Read → progressOf p l ≡ o → next (p .settings, drop (p .at) l) ≡ andThen o next
 went-on p l next r e =
-    ap (λ q. andThen (replied q (p .settings, drop (p .at) l)) next) (sym r) ∙ ap (λ o. andThen o next) e
+    ap (λ q. andThen (setupRead q (p .settings, drop (p .at) l)) next) (sym r) ∙ ap (λ o. andThen o next) e
 
 -- what is handed back of a file that was refused, and of one that was read
 module _ (p : Progress) (l : List ℕ) {o : Outcome (Settings × List ℕ)} (e : progressOf p l ≡ o) where
-  pub reply-handed : (s : Settings) → (p .reply ≡ setupReply.Read → s ≡ p .settings) → replied (p .reply) s ≡ settingsIn o
+  pub reply-handed : (s : Settings) → (p .reply ≡ setupReply.Read → s ≡ p .settings) → setupRead (p .reply) s ≡ settingsIn o
   reply-handed s h = of-reply (p .reply) h ∙ ap settingsIn e
     where
-      of-reply : (r : SetupReply) → (r ≡ setupReply.Read → s ≡ p .settings) → replied r s ≡ settingsIn (replied r (p .settings, drop (p .at) l))
+      of-reply : (r : SetupReply) → (r ≡ setupReply.Read → s ≡ p .settings) → setupRead r s ≡ settingsIn (setupRead r (p .settings, drop (p .at) l))
       of-reply setupReply.Read same = ap given (same refl)
       of-reply setupReply.OutOfRange same = refl
       of-reply setupReply.WrongLength same = refl
@@ -119,7 +119,7 @@ module _ (p : Progress) (l : List ℕ) {o : Outcome (Settings × List ℕ)} (e :
 
   pub read-handed : p .reply ≡ setupReply.Read → (p .settings ≡ settingsOrNew o) × (drop (p .at) l ≡ labelIn o)
   read-handed r =
-      let q : given (p .settings, drop (p .at) l) ≡ o = ap (λ x. replied x (p .settings, drop (p .at) l)) (sym r) ∙ e in
+      let q : given (p .settings, drop (p .at) l) ≡ o = ap (λ x. setupRead x (p .settings, drop (p .at) l)) (sym r) ∙ e in
       (ap settingsOrNew q, ap labelIn q)
 
   pub refused-handed : OneOf (1 ∷ 2 ∷ 3 ∷ []) (tagOf the-type (p .reply)) → (newSettings ≡ settingsOrNew o) × ([] ≡ labelIn o)
@@ -130,7 +130,7 @@ module _ (p : Progress) (l : List ℕ) {o : Outcome (Settings × List ℕ)} (e :
       part : Settings × List ℕ
       part = (p .settings, drop (p .at) l)
 
-      of-reply : (r : SetupReply) → OneOf (1 ∷ 2 ∷ 3 ∷ []) (tagOf the-type r) → (newSettings ≡ settingsOrNew (replied r part)) × ([] ≡ labelIn (replied r part))
+      of-reply : (r : SetupReply) → OneOf (1 ∷ 2 ∷ 3 ∷ []) (tagOf the-type r) → (newSettings ≡ settingsOrNew (setupRead r part)) × ([] ≡ labelIn (setupRead r part))
       of-reply setupReply.Read t = absurd (not-read setupReply.Read t refl)
       of-reply setupReply.OutOfRange t = (refl, refl)
       of-reply setupReply.WrongLength t = (refl, refl)

@@ -13,15 +13,15 @@ use Rattle.setup_reader.specs.declared.SetupReply.the-variants as setupR
 use Rattle.setup_reader.specs.declared.Progress.{Progress}
 
 -- the reading of a reply, with what was read
-abbrev pub replied : {A : Type 0} → SetupReply → A → Outcome A
-replied setupReply.Read a = given a
-replied setupReply.OutOfRange a = outOfRange
-replied setupReply.WrongLength a = wrongLength
-replied setupReply.OutOfOrder a = outOfOrder
+abbrev pub setupRead : {A : Type 0} → SetupReply → A → Outcome A
+setupRead setupReply.Read a = given a
+setupRead setupReply.OutOfRange a = outOfRange
+setupRead setupReply.WrongLength a = wrongLength
+setupRead setupReply.OutOfOrder a = outOfOrder
 
 -- how far a file has been read: the settings so far, and the bytes from the place of the next one on
 abbrev pub progressOf : Progress → List ℕ → Outcome (Settings × List ℕ)
-progressOf p file = replied (p .reply) (p .settings, drop (p .at) file)
+progressOf p file = setupRead (p .reply) (p .settings, drop (p .at) file)
 
 abbrev pub zoneEntryAt : List ℕ → ZoneEntry
 zoneEntryAt bytes = record { number = numberIn bytes; members = membersFrom bytes; zone = zoneFrom bytes }

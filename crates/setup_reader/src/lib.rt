@@ -3,15 +3,13 @@ ghost use mathlib.Core.Path.{_≡_};
 ghost use mathlib.Core.Bool.{true};
 ghost use Prim.Native.Nat.{_+_, _*_, _<_, _≤_, _^_};
 ghost use lib.ListN.{length, drop};
-ghost use Rattle.setup_reader.specs.Progress.{replied, progressOf, zoneEntryAt, channelEntryAt};
+ghost use Rattle.setup_reader.specs.Progress.{setupRead, progressOf, zoneEntryAt, channelEntryAt};
 ghost use Rattle.setup_file.specs.Format.{entrySize, numberIn, zoneEntryWithin, channelEntryWithin, entryWithin, atRest, unlisted, withZone, withChannel, settingsWith};
 ghost use Rattle.setup_file.specs.Read.{entryRead, entriesRead, sectionRead, zonesRead, labelRead, fileRead, settingsIn, settingsOrNew, labelIn};
 ghost use Rattle.settings.specs.declared.Settings.{Settings};
 ghost use Rattle.setup_reader.specs.declared.SetupReply.the-variants.{Read};
 ghost use Rattle.setup_file.specs.Claims.{OnlyForm, SeenIsShown, Leftmost, CourseShown};
 ghost use Rattle.setup_file.specs.Examples.{FilesAsTabled};
-use mpe_layout::MadeLayout;
-use mpe_layout::MpeLayout;
 use mpe_pitch::MpeSensitivity;
 use restatement_reply::zone_allowed;
 use settings::Settings;
@@ -182,7 +180,7 @@ fn is_unlisted(section: Section, file: &[u8], at: usize) -> bool
 // The entry at a place, whose number has to be `least` or more.
 fn entry_read(section: Section, file: &[u8], at: usize, least: u8) -> SetupReply
     requires { ⌜ at ≤ length (now file) ⌝ }
-    ensures { λ r. ⌜ replied r (numberIn (drop at (now (file .entry)))) ≡ entryRead section least (drop at (now (file .entry))) ⌝ }
+    ensures { λ r. ⌜ setupRead r (numberIn (drop at (now (file .entry)))) ≡ entryRead section least (drop at (now (file .entry))) ⌝ }
 {
     if file.len() - at < entry_size(section) {
         return SetupReply::WrongLength;
@@ -326,20 +324,20 @@ fn read_zones(file: &[u8]) -> Progress
     };
     let settings = zones.settings;
     let layout = settings.layout;
-    let MadeLayout::Made(made) = MpeLayout::new(layout.lower, layout.upper) else {
+    if !layout.is_layout() {
         return Progress {
             reply: SetupReply::OutOfRange,
             settings,
             at: zones.at,
         };
-    };
+    }
     zones
 }
 
 // What is answered for the label from a place on, which ends the file.
 fn label_reply(file: &[u8], at: usize) -> SetupReply
     requires { ⌜ at ≤ length (now file) ⌝ }
-    ensures reply { λ r. ⌜ ((s : Settings) → replied r (s, drop (at + 1) (now (file .entry))) ≡ labelRead s (drop at (now (file .entry)))) ⌝ }
+    ensures reply { λ r. ⌜ ((s : Settings) → setupRead r (s, drop (at + 1) (now (file .entry))) ≡ labelRead s (drop at (now (file .entry)))) ⌝ }
     ensures inside { λ r. ⌜ (r ≡ Read → at < length (now (file .entry))) ⌝ }
 {
     if file.len() == at {
@@ -407,7 +405,7 @@ fn read_file(file: &[u8]) -> Progress
 // (`form`); the fields that it says are those that the readings show (`seen`); the leftmost fault decides (`leftmost`); and of this one what a course
 // relies on (`course`). `examples` has some files and their replies.
 pub fn setup_settings(file: &[u8]) -> SetupRead
-    ensures reply { λ r. ⌜ replied (r .reply) (r .settings) ≡ settingsIn (fileRead (now (file .entry))) ⌝ }
+    ensures reply { λ r. ⌜ setupRead (r .reply) (r .settings) ≡ settingsIn (fileRead (now (file .entry))) ⌝ }
     ensures settings { λ r. ⌜ r .settings ≡ settingsOrNew (fileRead (now (file .entry))) ⌝ }
     ensures form { λ _. ⌜ OnlyForm ⌝ }
     ensures seen { λ _. ⌜ SeenIsShown ⌝ }

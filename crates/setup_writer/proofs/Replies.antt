@@ -14,24 +14,24 @@ use Rattle.settings.specs.declared.Settings.{Settings}
 use Rattle.settings.specs.Settings.{allowed}
 use Rattle.setup_file.specs.Format.{labelAllowed, setupFile}
 use Rattle.setup_file.specs.Claims.{Writable}
-use Rattle.setup_writer.specs.Reply.{setupReply}
+use Rattle.setup_writer.specs.Reply.{fileReply}
 
 module _ (s : Settings) (label : List ℕ) (got : ℕ) where
-  pub settings-refused : allowed s ≡ false → outOfRange ≡ setupReply s label got
-  unfolding setupReply
+  pub settings-refused : allowed s ≡ false → outOfRange ≡ fileReply s label got
+  unfolding fileReply
   settings-refused h = rw h
 
-  pub label-refused : allowed s ≡ true → labelAllowed label ≡ false → outOfRange ≡ setupReply s label got
-  unfolding setupReply
+  pub label-refused : allowed s ≡ true → labelAllowed label ≡ false → outOfRange ≡ fileReply s label got
+  unfolding fileReply
   label-refused h l = rw (h, l)
 
   module _ (h : allowed s ≡ true) (l : labelAllowed label ≡ true) {needed : ℕ} (n : needed ≡ length (setupFile s label)) where
-    pub too-small : got < needed → tooSmall needed got ≡ setupReply s label got
-    unfolding setupReply
+    pub too-small : got < needed → tooSmall needed got ≡ fileReply s label got
+    unfolding fileReply
     too-small short = rw (h, l, ← n, lt-ltb got needed short)
 
-    pub fitting : needed ≤ got → given needed ≡ setupReply s label got
-    unfolding setupReply
+    pub fitting : needed ≤ got → given needed ≡ fileReply s label got
+    unfolding fileReply
     fitting fits = rw (h, l, ← n, le-ltb got needed fits)
 
   -- a count: the settings and the label may be written, it is what is needed, and the buffer holds it
@@ -40,8 +40,8 @@ module _ (s : Settings) (label : List ℕ) (got : ℕ) where
     pub is-needed : length (setupFile s label) ≡ n
     pub fits : length (setupFile s label) ≤ got
 
-  pub counted : (n : ℕ) → given n ≡ setupReply s label got → Counted n
-  unfolding setupReply
+  pub counted : (n : ℕ) → given n ≡ fileReply s label got → Counted n
+  unfolding fileReply
   counted n e =
       let c = cases (allowed s) (labelAllowed label) (ltb got (length (setupFile s label))) (length (setupFile s label)) e in
       record {

@@ -13,8 +13,8 @@ use Rattle.setup_file.specs.Format.{labelAllowed, entriesOf, setupFile}
 use Rattle.setup_file.specs.Claims.{Writable}
 
 -- 1 for settings that are not legal or a label past its limits, then 2 for a buffer that is too small, and else how many bytes were written
-unfoldable pub setupReply : Settings → List ℕ → ℕ → Outcome ℕ
-setupReply s label got =
+unfoldable pub fileReply : Settings → List ℕ → ℕ → Outcome ℕ
+fileReply s label got =
     if allowed s then
     (if labelAllowed label then
     (if ltb got (length (setupFile s label)) then tooSmall (length (setupFile s label)) got else given (length (setupFile s label)))

@@ -11,7 +11,7 @@ ghost use Rattle.settings.specs.Settings.{zoneOf, membersIn, allowed};
 ghost use Rattle.setup_file.specs.Format.{most, entrySize, zoneNumbered, zoneEntry, channelEntry, entryOf, unlisted, entriesFrom, entriesOf, sectionOf, setupFile, seen};
 ghost use Rattle.setup_file.specs.declared.Section.the-variants.{Zones, Channels};
 ghost use Rattle.setup_file.specs.Read.{fileRead};
-ghost use Rattle.setup_writer.specs.Reply.{setupReply, FileSizes};
+ghost use Rattle.setup_writer.specs.Reply.{fileReply, FileSizes};
 use restatement_reply::is_allowed;
 use settings::Settings;
 use settings::ZoneSettings;
@@ -195,18 +195,18 @@ fn put_label(out: &mut [u8], at: usize, label: &[u8])
 }
 
 // How many bytes the file has: three counts, the entries and the label.
-fn file_size(settings: Settings, label: usize) -> usize
-    requires { ⌜ label ≤ 32 ⌝ }
-    ensures { λ r. ⌜ r ≡ 3 + 7 * length (entriesOf Zones settings) + 5 * length (entriesOf Channels settings) + label ⌝ }
+fn file_size(settings: Settings, label_length: usize) -> usize
+    requires { ⌜ «label_length» ≤ 32 ⌝ }
+    ensures { λ r. ⌜ r ≡ 3 + 7 * length (entriesOf Zones settings) + 5 * length (entriesOf Channels settings) + «label_length» ⌝ }
 {
     let zones = entry_count(Section::Zones, settings) as usize;
     let channels = entry_count(Section::Channels, settings) as usize;
-    3 + 7 * zones + 5 * channels + label
+    3 + 7 * zones + 5 * channels + label_length
 }
 
 // What the writer answers for a buffer of so many bytes.
-fn setup_reply(settings: Settings, label: &[u8], got: usize) -> Written
-    ensures { λ r. ⌜ writtenRead r ≡ setupReply settings (now (label .entry)) got ⌝ }
+fn file_reply(settings: Settings, label: &[u8], got: usize) -> Written
+    ensures { λ r. ⌜ writtenRead r ≡ fileReply settings (now (label .entry)) got ⌝ }
 {
     if !is_allowed(settings) {
         return Written::OutOfRange;
@@ -224,12 +224,12 @@ fn setup_reply(settings: Settings, label: &[u8], got: usize) -> Written
 // Writes the setup file of these settings and this label to the front of `out`. What `read_back` says is that the reader takes the very bytes written,
 // and gives back the settings in the fields that are read, and the label; `sizes` says how long files are.
 pub fn setup_bytes(settings: Settings, label: &[u8], out: &mut [u8]) -> Written
-    ensures reply { λ r. ⌜ writtenRead r ≡ setupReply settings (now (label .entry)) (length (now (out .entry))) ⌝ }
-    ensures buffer { λ _. ⌜ now (out .exit) ≡ filled (setupReply settings (now (label .entry)) (length (now (out .entry)))) (setupFile settings (now (label .entry))) (now (out .entry)) ⌝ }
+    ensures reply { λ r. ⌜ writtenRead r ≡ fileReply settings (now (label .entry)) (length (now (out .entry))) ⌝ }
+    ensures buffer { λ _. ⌜ now (out .exit) ≡ filled (fileReply settings (now (label .entry)) (length (now (out .entry)))) (setupFile settings (now (label .entry))) (now (out .entry)) ⌝ }
     ensures read_back { λ r. ⌜ ((n : ℕ) → writtenRead r ≡ given n → fileRead (take n (now (out .exit))) ≡ given (seen settings, now (label .entry))) ⌝ }
     ensures sizes { λ _. ⌜ FileSizes ⌝ }
 {
-    let reply = setup_reply(settings, label, out.len());
+    let reply = file_reply(settings, label, out.len());
     let Written::Count(n) = reply else {
         return reply;
     };

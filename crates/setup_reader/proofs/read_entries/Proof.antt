@@ -10,7 +10,7 @@ use Rattle.ump.specs.Outcome.{given}
 use Rattle.setup_reader.specs.declared.SetupReply.the-variants as setupReply
 use Rattle.setup_file.specs.Format.{numberIn}
 use Rattle.setup_file.specs.Read.{entryRead}
-use Rattle.setup_reader.specs.Progress.{replied}
+use Rattle.setup_reader.specs.Progress.{setupRead}
 use Rattle.setup_reader.proofs.Onward.{here, entries-on, one-left, entries-refused}
 use Prim.Native.Nat.{_-_, _<_, _≤_}
 use mathlib.Core.Path.{_≡_}
@@ -23,9 +23,9 @@ use Rattle.setup_reader.proofs.read_entries.Statement.{statement}
 use Rattle.setup_reader.proofs.read_entries.Tie as tie
 
 -- an entry whose reply is that it was read
-took : (section : Section) (least : ℕ) (b : List ℕ) (r : SetupReply) → r ≡ setupReply.Read → replied r (numberIn b) ≡ entryRead section least b
+took : (section : Section) (least : ℕ) (b : List ℕ) (r : SetupReply) → r ≡ setupReply.Read → setupRead r (numberIn b) ≡ entryRead section least b
     → given (numberIn b) ≡ entryRead section least b
-took section least b r e h = sym (ap (λ q. replied q (numberIn b)) e) ∙ h
+took section least b r e h = sym (ap (λ q. setupRead q (numberIn b)) e) ∙ h
 
 -- none is left
 ended : (section : Section) (least : ℕ) (s : Settings) (b : List ℕ) (left : ℕ) → left ≡ 0 → entriesRead section left least s b ≡ given (s, b)

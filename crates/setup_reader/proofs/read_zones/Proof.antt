@@ -1,19 +1,19 @@
 -- `setup_reader::read_zones` meets its contract: the section, and then its pair.
 -- Assumes nothing.
 use mathlib.Core.Path.{_≡_, sym, ap, _∙_}
-use mathlib.Core.Bool.{false}
+use mathlib.Core.Bool.{true, false}
+use borrow.Author.Tests.{not-true, not-false}
 use Rattle.ump.specs.Choice.{if_then_else_}
 use Rattle.ump.specs.Outcome.{Outcome, given, outOfRange}
 use mathlib.Core.List.{List}
 use Prim.Native.Nat.{ℕ}
 use lib.ListN.{drop}
-use Rattle.mpe_layout.specs.Layout.{legal, layoutMade}
+use Rattle.mpe_layout.specs.Layout.{legal}
 use Rattle.settings.specs.Settings.{newSettings}
 use Rattle.settings.specs.declared.Settings.{Settings}
-use Rattle.settings.proofs.Allowed.{made-legal, made-none}
 use Rattle.setup_file.specs.declared.Section.the-variants.{Zones}
 use Rattle.setup_file.specs.Read.{sectionRead}
-use Rattle.setup_reader.specs.Progress.{replied, progressOf}
+use Rattle.setup_reader.specs.Progress.{setupRead, progressOf}
 use Rattle.setup_reader.specs.declared.SetupReply.the-variants as setupReply
 use Rattle.setup_reader.proofs.Onward.{stopped, went-on}
 use borrow.Author.Needs.{needs}
@@ -39,45 +39,28 @@ returns c = let p = c .before .read-section .result in
     let e : progressOf p l ≡ sectionRead Zones newSettings l = c .before .read-section .ensures .0 ∙ ap (λ s. sectionRead Zones s l) (c .before .before .new .ensures .0) in
     (stopped p l pair (c .match .keys2) e, c .before .read-section .ensures .1)
 
-new-requires-2 : tie.Need-new-requires-2
-new-requires-2 c κs = search needs
-
-enum-known-made : tie.Need-enum-known-made
-enum-known-made c = search needs
-
-enum-told-2 : tie.Need-enum-told-2
-enum-told-2 c = search needs
+is-layout-requires : tie.Need-is-layout-requires
+is-layout-requires c κs = search needs
 
 returns-2 : tie.Need-returns-2
-returns-2 c = let n = c .before .before in
-    let d = n .before .before .before .before .before in
+returns-2 c = let y = c .before in
+    let d = y .before .before .before .before .before in
     let p = d .read-section .result in
     let l = d .before .before .before .args .file .now in
     let e : progressOf p l ≡ sectionRead Zones newSettings l = d .read-section .ensures .0 ∙ ap (λ s. sectionRead Zones s l) (d .before .new .ensures .0) in
-    let q : legal (p .settings .layout) ≡ false = made-none (p .settings .layout) (sym (ap layoutMade (c .enum-told2 .given .1)) ∙ n .new2 .ensures) in
-    (rw q at (went-on p l pair (n .before .before .before .enum-told .given .1) e), d .read-section .ensures .1)
+    let q : legal (p .settings .layout) ≡ false = sym (y .is-layout .ensures) ∙ not-true _ (c .if1 .taken) in
+    (rw q at (went-on p l pair (y .before .before .before .enum-told .given .1) e), d .read-section .ensures .1)
 
 returns-3 : tie.Need-returns-3
-returns-3 c = let m = c .before in
-    let n = m .before .before in
-    let d = n .before .before .before .before .before in
+returns-3 c = let y = c .before in
+    let d = y .before .before .before .before .before in
     let p = d .read-section .result in
     let l = d .before .before .before .args .file .now in
     let e : progressOf p l ≡ sectionRead Zones newSettings l = d .read-section .ensures .0 ∙ ap (λ s. sectionRead Zones s l) (d .before .new .ensures .0) in
-    let r : p .reply ≡ setupReply.Read = n .before .before .before .enum-told .given .1 in
-    let q = made-legal (p .settings .layout) (sym (ap layoutMade (m .made .given .1)) ∙ n .new2 .ensures) in
-    (ap (λ x. replied x (p .settings, drop (p .at) l)) r ∙ rw (q .0) at (went-on p l pair r e), d .read-section .ensures .1)
+    let r : p .reply ≡ setupReply.Read = y .before .before .before .enum-told .given .1 in
+    let q : legal (p .settings .layout) ≡ true = sym (y .is-layout .ensures) ∙ not-false _ (c .if1 .left) in
+    (ap (λ x. setupRead x (p .settings, drop (p .at) l)) r ∙ rw q at (went-on p l pair r e), d .read-section .ensures .1)
 
 pub read-zones-spec : {M : Type 1} → statement M
 read-zones-spec =
-    tie.close
-    (tie.spec
-    new-requires
-    read-section-requires
-    enum-told
-    returns
-    new-requires-2
-    enum-known-made
-    enum-told-2
-    returns-2
-    returns-3)
+    tie.close (tie.spec new-requires read-section-requires enum-told returns is-layout-requires returns-2 returns-3)

@@ -20,8 +20,8 @@ use borrow.Author.Needs.{needs}
 use Rattle.setup_writer.proofs.setup_bytes.Statement.{statement}
 use Rattle.setup_writer.proofs.setup_bytes.Tie as tie
 
-setup-reply-requires : tie.Need-setup-reply-requires
-setup-reply-requires c κs = search needs
+file-reply-requires : tie.Need-file-reply-requires
+file-reply-requires c κs = search needs
 
 enum-known-reply : tie.Need-enum-known-reply
 enum-known-reply c = search needs
@@ -31,9 +31,9 @@ returns c = let d = c .before in
     let a = d .before .before .before .args in
     let o = a .out .now in
     let x = setupFile (a .settings) (a .label .now) in
-    let r = d .setup-reply .result in
+    let r = d .file-reply .result in
     let t = c .match .keys2 in
-    let p = d .setup-reply .ensures in
+    let p = d .file-reply .ensures in
     (p, (stays r x o t ∙ ap (λ q. filled q x o) p, (λ n e. absurd (not-counted r t n e), file-sizes)))
 
 put-section-requires : tie.Need-put-section-requires
@@ -42,7 +42,7 @@ put-section-requires c κs = let k = c .before .before in
     let a = d .before .before .before .args in
     let s = a .settings in
     let l = a .label .now in
-    let p = sym (ap writtenRead (k .reply .given .1)) ∙ d .setup-reply .ensures in
+    let p = sym (ap writtenRead (k .reply .given .1)) ∙ d .file-reply .ensures in
     let q = counted s l _ _ p in
     let f = q .fits in
     let z = parts-long s l in
@@ -55,7 +55,7 @@ put-section-requires-2 c κs = let u = c .before .before .before in
     let a = d .before .before .before .args in
     let s = a .settings in
     let l = a .label .now in
-    let p = sym (ap writtenRead (k .reply .given .1)) ∙ d .setup-reply .ensures in
+    let p = sym (ap writtenRead (k .reply .given .1)) ∙ d .file-reply .ensures in
     let q = counted s l _ _ p in
     let f = q .fits in
     let z = parts-long s l in
@@ -72,7 +72,7 @@ put-label-requires c κs = let v = c .before .before .before in
     let a = d .before .before .before .args in
     let s = a .settings in
     let l = a .label .now in
-    let p = sym (ap writtenRead (k .reply .given .1)) ∙ d .setup-reply .ensures in
+    let p = sym (ap writtenRead (k .reply .given .1)) ∙ d .file-reply .ensures in
     let q = counted s l _ _ p in
     let f = q .fits in
     let z = parts-long s l in
@@ -96,7 +96,7 @@ returns-2 c = let w = c .before .before in
     let a = d .before .before .before .args in
     let s = a .settings in
     let l = a .label .now in
-    let p = sym (ap writtenRead (k .reply .given .1)) ∙ d .setup-reply .ensures in
+    let p = sym (ap writtenRead (k .reply .given .1)) ∙ d .file-reply .ensures in
     let q = counted s l _ _ p in
     let f = q .fits in
     let z = parts-long s l in
@@ -124,7 +124,7 @@ pub setup-bytes-spec : {M : Type 1} → statement M
 setup-bytes-spec =
     tie.close
     (tie.spec
-    setup-reply-requires
+    file-reply-requires
     enum-known-reply
     returns
     put-section-requires

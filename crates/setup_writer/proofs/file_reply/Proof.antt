@@ -1,4 +1,4 @@
--- `setup_writer::setup_reply` meets its contract: the settings, the label, and then the room.
+-- `setup_writer::file_reply` meets its contract: the settings, the label, and then the room.
 -- Assumes nothing.
 use mathlib.Core.Path.{sym, _∙_}
 use mathlib.Core.Bool.{true, false}
@@ -7,8 +7,8 @@ use Rattle.settings.specs.Settings.{allowed}
 use Rattle.setup_writer.proofs.Sizes.{label-at-most, file-size}
 use Rattle.setup_writer.proofs.Replies.{settings-refused, label-refused, too-small, fitting}
 use borrow.Author.Needs.{needs}
-use Rattle.setup_writer.proofs.setup_reply.Statement.{statement}
-use Rattle.setup_writer.proofs.setup_reply.Tie as tie
+use Rattle.setup_writer.proofs.file_reply.Statement.{statement}
+use Rattle.setup_writer.proofs.file_reply.Tie as tie
 
 is-allowed-requires : tie.Need-is-allowed-requires
 is-allowed-requires c κs = search needs
@@ -50,8 +50,8 @@ returns-4 c = let z = c .before in
     let n = z .file-size .ensures ∙ sym (file-size (a .settings) (a .label .now)) in
     fitting (a .settings) (a .label .now) (a .got) h l n (c .if3 .left)
 
-pub setup-reply-spec : {M : Type 1} → statement M
-setup-reply-spec =
+pub file-reply-spec : {M : Type 1} → statement M
+file-reply-spec =
     tie.close
     (tie.spec
     is-allowed-requires
