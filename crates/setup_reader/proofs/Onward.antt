@@ -23,7 +23,7 @@ use Rattle.setup_file.specs.Format.{most, entrySize, numberIn, entryWithin, set
 use Rattle.setup_file.specs.Read.{andThen, entryRead, entriesRead, settingsIn, settingsOrNew, labelIn}
 use Rattle.setup_reader.specs.Progress.{setupRead, progressOf}
 use Rattle.setup_reader.proofs.SetupReply.{the-type}
-use Rattle.setup_file.proofs.Printable.{getD-here}
+use Rattle.setup_reader.proofs.Places.{getD-here}
 use Rattle.setup_file.proofs.Entries.{within-number}
 use Rattle.setup_file.proofs.Taken.{read-taken}
 

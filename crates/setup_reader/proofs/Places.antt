@@ -1,14 +1,18 @@
 -- The bytes of a file from a place on, and the entry that stands there.
 -- Assumes nothing.
 use Prim.Native.Nat.{ℕ, _+_}
-use mathlib.Core.Path.{_≡_}
+use mathlib.Core.Path.{_≡_, ap, _∙_}
 use mathlib.Core.List.{List}
+use native.Mathlib.Nat.{add-zero}
 use lib.ListN.{getD, drop}
 use lib.Seq.{getD-drop}
-use Rattle.setup_file.proofs.Printable.{getD-here}
 use Rattle.setup_reader.specs.declared.ZoneEntry.{ZoneEntry}
 use Rattle.setup_reader.specs.declared.ChannelEntry.{ChannelEntry}
 use Rattle.setup_reader.specs.Progress.{zoneEntryAt, channelEntryAt}
+
+-- the byte at the place itself
+pub getD-here : (at : ℕ) (l : List ℕ) → getD (drop at l) 0 0 ≡ getD l at 0
+getD-here at l = getD-drop at l 0 0 ∙ ap (λ k. getD l k 0) (add-zero at)
 
 pub zone-entry-here : (at : ℕ) (l : List ℕ)
     → _≡_ {A = ZoneEntry}

@@ -11,7 +11,7 @@ use Rattle.ump.specs.Outcome.{given, outOfRange}
 use Rattle.setup_file.specs.declared.Section.{Section}
 use Rattle.setup_file.specs.Format.{entrySize, numberIn, entryWithin, unlisted}
 use Rattle.setup_file.specs.Read.{wrongLength, outOfOrder, entryRead}
-use Rattle.setup_file.proofs.Printable.{getD-here}
+use Rattle.setup_reader.proofs.Places.{getD-here}
 
 module _ (section : Section) (least at : ℕ) (l : List ℕ) where
   pub entry-cut : length l - at < entrySize section → wrongLength ≡ entryRead section least (drop at l)
