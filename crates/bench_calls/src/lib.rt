@@ -1,4 +1,6 @@
 // Runs of other calls, each in one function that a C or Rust caller links (docs/BENCHMARKS.md).
+#![tactic(auto)]
+
 ghost use Rattle.std.specs.Prelude.{◌≡◌, length};
 ghost use Rattle.receiving_end.specs.End.{new_end};
 ghost use Rattle.receiving_end.specs.Lists.{after_bytes};
@@ -20,7 +22,7 @@ use settings::Settings;
 use zone_sender::Written;
 
 // An allocator, and the sum of the channels that it gave.
-#[derive(Drop)]
+#[derive(Clone, Copy)]
 struct Noted {
     allocator: MpeNoteAllocator,
     sum: u64,

@@ -1,4 +1,6 @@
 // The calls that a board's firmware links: a new end, and a byte on a lent end. A reply is a number (docs/BENCHMARKS.md).
+#![tactic(auto)]
+
 ghost use Rattle.std.specs.Prelude.{◌≡◌, ◌<◌, ◌^◌};
 ghost use Rattle.receiving_end.specs.End.{new_end, step_reply, step_end};
 ghost use Rattle.bench_lent.specs.Code.{zone_code, part_code, event_code, reply_code};

@@ -1,4 +1,6 @@
 // A run of translations by value, in one function that a C or Rust caller links (docs/BENCHMARKS.md).
+#![tactic(auto)]
+
 ghost use Rattle.std.specs.Prelude.{◌≡◌};
 ghost use Rattle.translate_state.specs.State.{new_record};
 ghost use Rattle.translate.specs.Translate.{translation_read};

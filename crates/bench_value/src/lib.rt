@@ -1,4 +1,6 @@
 // A run of byte calls by value, in one function that a C or Rust caller links (docs/BENCHMARKS.md).
+#![tactic(auto)]
+
 ghost use Rattle.std.specs.Prelude.{◌≡◌};
 ghost use Rattle.receiving_end.specs.End.{new_end};
 ghost use Rattle.bench_value.specs.Runs.{replies_sum};

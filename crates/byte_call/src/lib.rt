@@ -1,4 +1,6 @@
 // The byte call: by value, on a lent end, and for a list of bytes (document 01, "A byte arrives").
+#![tactic(auto)]
+
 ghost use Rattle.std.specs.Prelude.{◌≡◌, map, ◌<◌};
 ghost use Rattle.parameters.specs.State.{parameter_reply_read};
 ghost use Rattle.mpe_event.specs.Update.{mpe_reply_read};

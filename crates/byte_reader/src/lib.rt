@@ -1,11 +1,13 @@
 // The byte reader (document 01, "A byte arrives"; document 02, 2026-06): running status, and the first data byte of a begun message.
+#![tactic(auto)]
+
 ghost use Rattle.std.specs.Prelude.{◌≡◌, ◌/◌, ◌%◌};
 ghost use Rattle.ump.specs.Word.{word_of};
 ghost use Rattle.byte_reader.specs.Reader.{new_reader, reader_at, reading as readAs, class_of_byte, second_data, data_step, class_step, read_step, WordsFormed};
 ghost use Rattle.byte_reader.specs.Claims.{EachByte};
 
 // What kind of byte it is (MIDI 1.0, Table I).
-#[derive(Drop)]
+#[derive(Clone, Copy)]
 pub enum ByteClass {
     // 00 to 7F
     Data,
@@ -20,7 +22,7 @@ pub enum ByteClass {
 }
 
 #[repr(C)]
-#[derive(Drop)]
+#[derive(Clone, Copy)]
 pub struct Reader {
     // The running status, 80 to EF, or 0 for none.
     pub status: u8,
@@ -29,7 +31,7 @@ pub struct Reader {
 }
 
 // What the reader makes of a byte.
-#[derive(Drop)]
+#[derive(Clone, Copy)]
 pub enum Read {
     Quiet,
     Dropped,
@@ -37,7 +39,7 @@ pub enum Read {
     Message(u32),
 }
 
-#[derive(Drop)]
+#[derive(Clone, Copy)]
 pub struct ReadStep {
     pub reader: Reader,
     pub read: Read,

@@ -1,4 +1,6 @@
 // The byte call on a lent end: the end is taken apart and altered where it stands.
+#![tactic(auto)]
+
 ghost use Rattle.std.specs.Prelude.{◌≡◌};
 ghost use Rattle.parameters.specs.State.{parameter_reply_read};
 ghost use Rattle.mpe_event.specs.Update.{in_mode4, mpe_reply_read};
@@ -17,7 +19,7 @@ use receiving_end::end::{End, Reply, Stepped};
 use ump::channel_voice1::{channel, first_data, opcode, second_data};
 
 // A byte as the lent call takes it: a message of a channel, or a byte that reaches the reader alone.
-#[derive(Drop)]
+#[derive(Clone, Copy)]
 struct Taken {
     reader: Reader,
     // The reply to a byte that reaches the reader alone.
@@ -33,7 +35,7 @@ struct Taken {
 }
 
 // What a control change other than a brightness gets of its channel's parameters.
-#[derive(Drop)]
+#[derive(Clone, Copy)]
 struct Controlled {
     state: ParameterState,
     event: MaybeEvent,
@@ -42,7 +44,7 @@ struct Controlled {
 }
 
 // What the receiver makes of a message.
-#[derive(Drop)]
+#[derive(Clone, Copy)]
 struct Settled {
     receiver: MpeReceiver,
     reply: Reply,

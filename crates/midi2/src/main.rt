@@ -1,5 +1,7 @@
 // Reads the bytes of a MIDI cable on standard input, to the end, and prints the two MIDI 2.0 words of each message that gives words, a line each;
 // then, channels rising, those of each entry that is still pending.
+#![tactic(auto)]
+
 mod out;
 
 use libc::{STDERR_FILENO, STDIN_FILENO};
@@ -7,7 +9,7 @@ use midi2_text::cable::{Cable, Heard};
 use out::Out;
 
 // What is known between two reads.
-#[derive(Drop)]
+#[derive(Clone, Copy)]
 struct Listening {
     cable: Cable,
     out: Out,

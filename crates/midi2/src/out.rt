@@ -4,7 +4,7 @@ use midi2_text::line::pair_line;
 use translate::Translation;
 
 // How many bytes wait in the buffer, and whether every write so far succeeded.
-#[derive(Drop)]
+#[derive(Clone, Copy)]
 pub(crate) struct Out {
     pub(crate) waiting: usize,
     pub(crate) well: bool,

@@ -10,14 +10,14 @@ use receiving_end::end::{End, Reply};
 use translate::{Translated, Translation, translate_words};
 use translate_state::Midi1ToMidi2Group;
 
-#[derive(Drop)]
+#[derive(Clone, Copy)]
 pub struct Cable {
     pub end: End,
     pub translator: Midi1ToMidi2Group,
 }
 
 // A cable after a byte or a flush, and the words.
-#[derive(Drop)]
+#[derive(Clone, Copy)]
 pub struct Heard {
     pub cable: Cable,
     pub reply: Translation,

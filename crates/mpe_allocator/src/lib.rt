@@ -1,4 +1,6 @@
 // The note allocator of an MPE sender (mpe.rs): the member channel for each new note.
+#![tactic(auto)]
+
 ghost use Rattle.std.specs.Prelude.{◌≡◌, ◌+◌, ◌-◌, ◌*◌, ◌<◌, ◌≤◌, false};
 ghost use Rattle.ump.specs.Packet.{packet_value};
 ghost use Rattle.ump.specs.Choice.{if◌then◌else◌};
@@ -13,7 +15,7 @@ ghost use Rattle.mpe_allocator.specs.Claims.{OfChannel, ChosenIsMember, OneChose
 use mpe_layout::{LowestMember, Members, MpeLayout, MpeZone};
 
 // For each channel the count of held notes, the last note (0x80 added, 0 for none) and the clock at the last release (M1-100 A.3).
-#[derive(Drop)]
+#[derive(Clone, Copy)]
 pub struct MpeNoteAllocator {
     pub active: [u8; 16],
     pub last_note: [u8; 16],
@@ -24,7 +26,7 @@ pub struct MpeNoteAllocator {
 }
 
 // What a new note gets.
-#[derive(Drop)]
+#[derive(Clone, Copy)]
 pub enum NoteReply {
     Channel(u8),
     OutOfRange,
@@ -32,7 +34,7 @@ pub enum NoteReply {
 }
 
 // The allocator after `note_on`, and its answer.
-#[derive(Drop)]
+#[derive(Clone, Copy)]
 pub struct Allocation {
     pub allocator: MpeNoteAllocator,
     pub reply: NoteReply,

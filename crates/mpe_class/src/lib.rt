@@ -1,9 +1,11 @@
 // The classes of messages of Appendix E (mpe.rs).
+#![tactic(auto)]
+
 ghost use Rattle.std.specs.Prelude.{◌≡◌};
 ghost use Rattle.mpe_class.specs.Classes.{by_mode, row_of, column_of, class_of};
 
 // A kind of message of Appendix E (Table 5).
-#[derive(Drop)]
+#[derive(Clone, Copy)]
 pub enum MpeMessage {
     // RPN 00 06, the MPE Configuration Message.
     Mcm,
@@ -46,7 +48,7 @@ pub enum MpeMessage {
 }
 
 // The class of a kind of message in Appendix E.
-#[derive(Drop)]
+#[derive(Clone, Copy)]
 pub enum MpeClass {
     Mandatory,
     Optional,
@@ -60,7 +62,7 @@ const O: MpeClass = MpeClass::Optional;
 const P: MpeClass = MpeClass::Prohibited;
 
 // A row of Table 5: manager transmits, manager receives, member transmits, member receives.
-#[derive(Drop)]
+#[derive(Clone, Copy)]
 struct Row(MpeClass, MpeClass, MpeClass, MpeClass);
 
 // The row of Program Change and Bank Select, by the mode of the zone.

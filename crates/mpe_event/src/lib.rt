@@ -1,4 +1,6 @@
 // What a message does to the zones of an MPE receiver, and its event (mpe.rs).
+#![tactic(auto)]
+
 ghost use Rattle.std.specs.Prelude.{◌≡◌};
 ghost use Rattle.mpe_layout.specs.Layout.{lowest_found};
 ghost use Rattle.mpe_zones.specs.Zones.{mono_of};
@@ -14,7 +16,7 @@ use ump::channel_voice1::{channel, first_data, is_message, opcode};
 use ump::controller::Rpn;
 
 // What one message gives.
-#[derive(Drop)]
+#[derive(Clone, Copy)]
 pub enum MpeEvent {
     // The channel is in no zone: a conventional MIDI 1.0 message.
     NoZone,
@@ -31,14 +33,14 @@ pub enum MpeEvent {
 }
 
 // What a receiver answers to a message.
-#[derive(Drop)]
+#[derive(Clone, Copy)]
 pub enum MpeReply {
     Received(MpeEvent),
     OutOfRange,
 }
 
 // What a parameter event is to the receiver.
-#[derive(Drop)]
+#[derive(Clone, Copy)]
 enum Decoded {
     Nothing,
     // RPN 6, the MPE Configuration Message.
@@ -48,21 +50,21 @@ enum Decoded {
 }
 
 // The zones after a message, and its event.
-#[derive(Drop)]
+#[derive(Clone, Copy)]
 pub struct ZonesUpdate {
     pub zones: Zones,
     pub event: MpeEvent,
 }
 
 // What `receive` gives.
-#[derive(Drop)]
+#[derive(Clone, Copy)]
 pub struct ZonesReceived {
     pub zones: Zones,
     pub reply: MpeReply,
 }
 
 // The zone that a channel announces.
-#[derive(Drop)]
+#[derive(Clone, Copy)]
 enum AnnouncedZone {
     NoneAnnounced,
     Announced(MpeZone),

@@ -1,4 +1,6 @@
 // MPE zones, roles and layouts (mpe.rs).
+#![tactic(auto)]
+
 ghost use Rattle.std.specs.Prelude.{◌≡◌, true, ◌<◌};
 ghost use Rattle.ump.specs.Outcome.{given};
 ghost use Rattle.mpe_layout.specs.Layout.{legal_counts, no_zones, default_layout, legal, of_legal, members_of, other_zone, manager_of, active, place_of, role_at, role_of, lowest_or_none, left_beside, layout_for, with_mcm, new_layout, mcm_layout, role_given, layout_made, members_found, role_found, activity_found, lowest_found};
@@ -6,7 +8,7 @@ ghost use Rattle.mpe_layout.specs.Sheet.{place_named, HoldsPlaces};
 ghost use Rattle.mpe_layout.specs.declared.ZonePlace.TheVariants.{Outside};
 
 // One of the two zones (M1-100 2.2.1).
-#[derive(Drop)]
+#[derive(Clone, Copy)]
 pub enum MpeZone {
     // Manager channel 0, members from 1 up.
     Lower,
@@ -36,7 +38,7 @@ impl MpeZone {
 }
 
 // The role of a channel in a layout (M1-100 1.5.1).
-#[derive(Drop)]
+#[derive(Clone, Copy)]
 pub enum MpeRole {
     // A conventional MIDI 1.0 channel.
     NoZone,
@@ -45,7 +47,7 @@ pub enum MpeRole {
 }
 
 // Where a channel stands to one zone.
-#[derive(Drop)]
+#[derive(Clone, Copy)]
 enum ZonePlace {
     Outside,
     AsManager,
@@ -216,42 +218,42 @@ fn layout_for(zone: MpeZone, members: u8, other: u8) -> MpeLayout
 
 // A layout: the member count of each zone.
 #[repr(C)]
-#[derive(Drop)]
+#[derive(Clone, Copy)]
 pub struct MpeLayout {
     pub lower: u8,
     pub upper: u8,
 }
 
 // What a call that makes a layout answers.
-#[derive(Drop)]
+#[derive(Clone, Copy)]
 pub enum MadeLayout {
     Made(MpeLayout),
     OutOfRange,
 }
 
 // What `members` answers.
-#[derive(Drop)]
+#[derive(Clone, Copy)]
 pub enum Members {
     Count(u8),
     OutOfRange,
 }
 
 // What `role` and `role_compared` answer.
-#[derive(Drop)]
+#[derive(Clone, Copy)]
 pub enum FoundRole {
     Role(MpeRole),
     OutOfRange,
 }
 
 // What `is_active` answers.
-#[derive(Drop)]
+#[derive(Clone, Copy)]
 pub enum Activity {
     Active(bool),
     OutOfRange,
 }
 
 // What `lowest_member` answers.
-#[derive(Drop)]
+#[derive(Clone, Copy)]
 pub enum LowestMember {
     Channel(u8),
     OutOfRange,

@@ -1,4 +1,6 @@
 // Pitch bend sensitivity, and pitch offsets in hundredths of a cent (mpe.rs).
+#![tactic(auto)]
+
 ghost use Rattle.std.specs.Prelude.{◌≡◌, ◌+◌, ◌*◌, ◌<◌, ◌≤◌, min, nat_abs, pos, ◌-ℤ◌};
 ghost use Rattle.ump.specs.Choice.{if◌then◌else◌};
 ghost use Rattle.mpe_pitch.specs.Pitch.{manager_default, member_default, range_of, nearest, pitch_offset, pitch_bend_value};
@@ -6,7 +8,7 @@ ghost use Rattle.mpe_pitch.specs.Remainder.{offset_with_remainder};
 ghost use Rattle.mpe_pitch.specs.Claims.{OffsetNearest, NoTie, OffsetWithin, OffsetRises, Within, IsPair, OnlyPair};
 
 // A Pitch Bend Sensitivity: semitones (Data Entry MSB of RPN 0) and cents (LSB), 7 bits each (M1-100 2.2.5).
-#[derive(Drop)]
+#[derive(Clone, Copy)]
 pub struct MpeSensitivity {
     pub semitones: u8,
     pub cents: u8,
@@ -128,7 +130,7 @@ pub fn pitch_offset(value: u16, sensitivity: MpeSensitivity) -> i32
 }
 
 // A pitch offset and its remainder: the range times (value - 8192) is 8191 times the offset plus the remainder.
-#[derive(Drop)]
+#[derive(Clone, Copy)]
 pub struct OffsetWithRemainder {
     pub offset: i32,
     pub remainder: i32,

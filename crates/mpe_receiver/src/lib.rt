@@ -1,4 +1,6 @@
 // The MPE receiver of one MIDI 1.0 input (mpe.rs).
+#![tactic(auto)]
+
 ghost use Rattle.std.specs.Prelude.{◌≡◌, ◌<◌, ℤ};
 ghost use Rattle.ump.specs.Outcome.{given};
 ghost use Rattle.mpe_reset.specs.Reset.{mask_found};
@@ -21,7 +23,7 @@ use ump::channel_voice1::{channel, first_data, opcode, second_data};
 
 // The layout, the mode and the two sensitivities of each zone, and the last bend, pressure and brightness of each channel.
 #[repr(C)]
-#[derive(Drop)]
+#[derive(Clone, Copy)]
 pub struct MpeReceiver {
     pub layout: MpeLayout,
     // Mode 4.
@@ -34,35 +36,35 @@ pub struct MpeReceiver {
     pub brightness: [u8; 16],
 }
 
-#[derive(Drop)]
+#[derive(Clone, Copy)]
 pub struct ReceiverUpdate {
     pub receiver: MpeReceiver,
     pub event: MpeEvent,
 }
 
 // What `receive` gives.
-#[derive(Drop)]
+#[derive(Clone, Copy)]
 pub struct Received {
     pub receiver: MpeReceiver,
     pub reply: MpeReply,
 }
 
 // What `set_layout` gives.
-#[derive(Drop)]
+#[derive(Clone, Copy)]
 pub struct LayoutSet {
     pub receiver: MpeReceiver,
     pub reply: ResetMask,
 }
 
 // What `pitch_offset` answers.
-#[derive(Drop)]
+#[derive(Clone, Copy)]
 pub enum Offset {
     Offset(i32),
     NoRole,
 }
 
 // What `pitch_offset_with_remainder` answers.
-#[derive(Drop)]
+#[derive(Clone, Copy)]
 pub enum OffsetPair {
     Pair(OffsetWithRemainder),
     NoRole,

@@ -1,4 +1,6 @@
 // The channels that a change of layout resets (mpe.rs).
+#![tactic(auto)]
+
 ghost use Rattle.std.specs.Prelude.{◌≡◌, true, ◌<◌};
 ghost use Rattle.ump.specs.Outcome.{given};
 ghost use Rattle.ump.specs.Field.{mask_to};
@@ -8,14 +10,14 @@ ghost use Rattle.mpe_reset.specs.Reset.{in_lower, in_upper, announcement_mask, l
 use mpe_layout::{MpeLayout, MpeZone};
 
 // What the reset masks answer.
-#[derive(Drop)]
+#[derive(Clone, Copy)]
 pub enum ResetMask {
     Mask(u16),
     OutOfRange,
 }
 
 // How a layout changes: a zone is announced, or the whole layout is set.
-#[derive(Drop)]
+#[derive(Clone, Copy)]
 enum Change {
     Announced(MpeZone),
     Set,

@@ -1,4 +1,6 @@
 // The sending side of MPE (mpe.rs): the writers of a sender.
+#![tactic(auto)]
+
 ghost use Rattle.std.specs.Prelude.{◌≡◌, [], ◌∷◌};
 ghost use Rattle.ump.specs.Outcome.{all_of, followed_by};
 ghost use Rattle.ump.specs.Packet.{packet_value};
@@ -80,7 +82,7 @@ pub fn sensitivity_messages(channel: u8, semitones: u8, cents: u8) -> FourWords
 }
 
 // The lowest member and the member count of an active zone.
-#[derive(Drop)]
+#[derive(Clone, Copy)]
 pub enum ActiveZone {
     Zone { lowest: u8, members: u8 },
     OutOfRange,

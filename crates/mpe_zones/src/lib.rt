@@ -1,4 +1,6 @@
 // The zones of an MPE receiver (mpe.rs): the layout, the modes and the sensitivities, and what changes them.
+#![tactic(auto)]
+
 ghost use Rattle.std.specs.Prelude.{◌≡◌, ◌<◌, ◌*◌, ◌+◌, ◌^◌};
 ghost use Rattle.ump.specs.Outcome.{out_of_range};
 ghost use Rattle.mpe_layout.specs.Layout.{role_found};
@@ -13,7 +15,7 @@ use parameter_event::{Parameter, ParameterChange, ParameterEvent};
 use ump::controller::Rpn;
 
 // The zones of a receiver: the layout, and the mode and the sensitivities of each zone.
-#[derive(Drop)]
+#[derive(Clone, Copy)]
 pub struct Zones {
     pub layout: MpeLayout,
     pub lower_mono: bool,
@@ -22,7 +24,7 @@ pub struct Zones {
 }
 
 // What `set_layout` and `announce` give.
-#[derive(Drop)]
+#[derive(Clone, Copy)]
 pub struct ZonesLayoutSet {
     pub zones: Zones,
     pub reply: ResetMask,

@@ -1,5 +1,7 @@
 // Reads the bytes of a MIDI cable on standard input, to the end; then prints each channel's number and its pitch offset in hundredths of a cent,
 // or `-` for a channel with no role.
+#![tactic(auto)]
+
 use byte_call::step_all;
 use libc::{STDERR_FILENO, STDIN_FILENO, STDOUT_FILENO};
 use mpe_pitch::unsigned_abs;
@@ -7,7 +9,7 @@ use mpe_receiver::Offset;
 use receiving_end::end::End;
 
 // What is known between two reads.
-#[derive(Drop)]
+#[derive(Clone, Copy)]
 struct Listening {
     end: End,
     // More may come.

@@ -1,18 +1,20 @@
 // A change of a parameter, and the value after it (parameters.rs).
+#![tactic(auto)]
+
 ghost use Rattle.std.specs.Prelude.{◌≡◌, ℕ, ◌<◌, ◌^◌, ◌-◌};
 ghost use Rattle.parameter_event.specs.Apply.{saturating_step, step_cents, step_upper, step_numbered, step_parameter, applied};
 
 use ump::controller::Rpn;
 
 // A parameter: a Registered or a Non-Registered Parameter Number.
-#[derive(Drop)]
+#[derive(Clone, Copy)]
 pub enum Parameter {
     Registered(Rpn),
     NonRegistered { msb: u8, lsb: u8 },
 }
 
 // One change of the selected parameter.
-#[derive(Drop)]
+#[derive(Clone, Copy)]
 pub enum ParameterChange {
     // Data Entry MSB (controller 6), 7 bits.
     DataEntryMsb(u8),
@@ -25,7 +27,7 @@ pub enum ParameterChange {
 }
 
 // What a Data Entry, Data Increment or Data Decrement gives.
-#[derive(Drop)]
+#[derive(Clone, Copy)]
 pub struct ParameterEvent {
     pub parameter: Parameter,
     pub change: ParameterChange,

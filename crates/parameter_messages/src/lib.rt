@@ -1,4 +1,6 @@
 // The messages that select a parameter and change it (parameters.rs).
+#![tactic(auto)]
+
 ghost use Rattle.std.specs.Prelude.{◌≡◌};
 ghost use Rattle.ump.specs.Word.{message_made, two_made, four_made};
 ghost use Rattle.ump.specs.Outcome.{followed_by};

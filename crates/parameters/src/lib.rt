@@ -1,4 +1,6 @@
 // The parameter receiver of one channel (parameters.rs).
+#![tactic(auto)]
+
 ghost use Rattle.std.specs.Prelude.{◌≡◌, ◌<◌, ◌-◌};
 ghost use Rattle.parameters.specs.State.{new_state, number, with_rpn, with_nrpn, selects, selected_rpn, selected_nrpn, selection_of, nulled, rpn_switched, nrpn_switched, entered, number_stored, controlled, update_by_fields, parameter_reply_read, parameter_reply, parameter_after};
 
@@ -13,7 +15,7 @@ const NULL: u8 = 0x7F;
 
 // A parameter number: each half 0 to 127, or MISSING.
 #[repr(C)]
-#[derive(Drop)]
+#[derive(Clone, Copy)]
 pub struct Number {
     pub msb: u8,
     pub lsb: u8,
@@ -21,7 +23,7 @@ pub struct Number {
 
 // The parameter receiver of one channel: both numbers, the kind stored last, and the reception of each kind.
 #[repr(C)]
-#[derive(Drop)]
+#[derive(Clone, Copy)]
 pub struct ParameterState {
     pub rpn: Number,
     pub nrpn: Number,
@@ -31,34 +33,34 @@ pub struct ParameterState {
 }
 
 // The parameter that a data entry acts on.
-#[derive(Drop)]
+#[derive(Clone, Copy)]
 pub enum Selection {
     Nothing,
     Selected(Parameter),
 }
 
 // At most one event.
-#[derive(Drop)]
+#[derive(Clone, Copy)]
 pub enum MaybeEvent {
     NoEvent,
     Event(ParameterEvent),
 }
 
 // What a message gave: the next state, and at most one event.
-#[derive(Drop)]
+#[derive(Clone, Copy)]
 pub struct ParameterUpdate {
     pub state: ParameterState,
     pub event: MaybeEvent,
 }
 
 // What `receive` answers.
-#[derive(Drop)]
+#[derive(Clone, Copy)]
 pub enum Reply {
     Received(MaybeEvent),
     OutOfRange,
 }
 
-#[derive(Drop)]
+#[derive(Clone, Copy)]
 pub struct Received {
     pub state: ParameterState,
     pub reply: Reply,

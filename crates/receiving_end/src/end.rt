@@ -24,7 +24,7 @@ use parameters::{ParameterState, Selection};
 
 // A reader, the parameters of each channel, and one receiver.
 #[repr(C)]
-#[derive(Drop)]
+#[derive(Clone, Copy)]
 pub struct End {
     pub reader: Reader,
     pub parameters: [ParameterState; 16],
@@ -32,7 +32,7 @@ pub struct End {
 }
 
 // What a byte gets.
-#[derive(Drop)]
+#[derive(Clone, Copy)]
 pub enum Reply {
     Quiet,
     Dropped,
@@ -41,14 +41,14 @@ pub enum Reply {
     Message(u32, MpeEvent),
 }
 
-#[derive(Drop)]
+#[derive(Clone, Copy)]
 pub struct Stepped {
     pub end: End,
     pub reply: Reply,
 }
 
 // What `set_layout` gives.
-#[derive(Drop)]
+#[derive(Clone, Copy)]
 pub struct LayoutSet {
     pub end: End,
     pub reply: ResetMask,

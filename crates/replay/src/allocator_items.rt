@@ -6,7 +6,7 @@ use mpe_allocator::{MpeNoteAllocator, NoteReply};
 use mpe_layout::MpeLayout;
 
 // The allocator after an item, and the answer.
-#[derive(Drop)]
+#[derive(Clone, Copy)]
 pub(crate) struct AllocatorAnswered {
     pub(crate) allocator: MpeNoteAllocator,
     pub(crate) line: Line,

@@ -4,7 +4,7 @@ use parameter_event::{Parameter, ParameterChange};
 use ump::controller::Rpn;
 
 // An item's operation and its first ten bytes of arguments: all that an item has but for a settings record and a file.
-#[derive(Drop)]
+#[derive(Clone, Copy)]
 pub(crate) struct Item {
     pub(crate) operation: u8,
     pub(crate) a1: u8,

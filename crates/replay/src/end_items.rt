@@ -8,7 +8,7 @@ use mpe_layout::{MpeLayout, MpeZone};
 use receiving_end::end::{End, Reply, Stepped};
 
 // The end after an item, and the answer.
-#[derive(Drop)]
+#[derive(Clone, Copy)]
 pub(crate) struct EndAnswered {
     pub(crate) end: End,
     pub(crate) line: Line,

@@ -6,14 +6,14 @@ use crate::tokens::{Place, Token};
 
 // An item that is being read: how many of its bytes are there, and where its text goes on. The bytes lie in an array of 515, since item 90 with the
 // longest file has so many.
-#[derive(Drop)]
+#[derive(Clone, Copy)]
 pub(crate) struct Begun {
     pub(crate) count: usize,
     pub(crate) place: Place,
 }
 
 // What has become of an item.
-#[derive(Drop)]
+#[derive(Clone, Copy)]
 pub(crate) enum Found {
     More,
     Whole,
@@ -21,14 +21,14 @@ pub(crate) enum Found {
 }
 
 // An item after a character.
-#[derive(Drop)]
+#[derive(Clone, Copy)]
 pub(crate) struct Step {
     pub(crate) begun: Begun,
     pub(crate) found: Found,
 }
 
 // An item after a part of the text, and where the rest of the text begins.
-#[derive(Drop)]
+#[derive(Clone, Copy)]
 pub(crate) struct Part {
     pub(crate) begun: Begun,
     pub(crate) found: Found,

@@ -11,7 +11,7 @@ pub(crate) const MINUS: u8 = 1;
 pub(crate) const REFUSAL: u8 = 2;
 
 // The mark and the number of each cell.
-#[derive(Drop)]
+#[derive(Clone, Copy)]
 pub(crate) struct Line {
     pub(crate) count: usize,
     pub(crate) marks: [u8; 20],

@@ -1,5 +1,7 @@
 // Answers a trace: reads items from standard input, makes the call of each, and writes one answer line for each. What cannot be read ends the run
 // with the line `?`. docs/REPLAY.md has the items.
+#![tactic(auto)]
+
 mod allocator_items;
 mod arguments;
 mod end_items;

@@ -4,7 +4,7 @@ use libc::STDOUT_FILENO;
 use zone_sender::Written;
 
 // How many bytes wait in the buffer, and whether every write so far succeeded.
-#[derive(Drop)]
+#[derive(Clone, Copy)]
 pub(crate) struct Out {
     pub(crate) waiting: usize,
     pub(crate) well: bool,

@@ -7,7 +7,7 @@ use parameter_messages::{change_message, select_messages, value_messages};
 use parameters::{MaybeEvent, ParameterState, Reply, Selection};
 
 // The parameter state after an item, and the answer.
-#[derive(Drop)]
+#[derive(Clone, Copy)]
 pub(crate) struct ParameterAnswered {
     pub(crate) state: ParameterState,
     pub(crate) line: Line,

@@ -11,7 +11,7 @@ use parameter_event::ParameterEvent;
 use parameters::MaybeEvent;
 
 // The receiver after an item, and the answer.
-#[derive(Drop)]
+#[derive(Clone, Copy)]
 pub(crate) struct ReceiverAnswered {
     pub(crate) receiver: MpeReceiver,
     pub(crate) line: Line,

@@ -7,7 +7,7 @@ use crate::{restatement_items, sender_items, setup_items};
 use libc::STDERR_FILENO;
 
 // The run between two reads: the states, the item that is being read, the output, and whether more is to be read.
-#[derive(Drop)]
+#[derive(Clone, Copy)]
 pub(crate) struct Run {
     pub(crate) states: States,
     pub(crate) begun: Begun,

@@ -12,7 +12,7 @@ use receiving_end::end::End;
 use translate_state::Midi1ToMidi2Group;
 
 // Each is new at the start.
-#[derive(Drop)]
+#[derive(Clone, Copy)]
 pub(crate) struct States {
     pub(crate) end: End,
     pub(crate) parameters: ParameterState,
@@ -22,7 +22,7 @@ pub(crate) struct States {
 }
 
 // The states after an item, and the answer.
-#[derive(Drop)]
+#[derive(Clone, Copy)]
 pub(crate) struct Answered {
     pub(crate) states: States,
     pub(crate) line: Line,

@@ -1,7 +1,7 @@
 // The text of a trace, character by character: pairs of hexadecimal digits, with spaces, line ends and comments between them.
 
 // Where the reader stands.
-#[derive(Drop)]
+#[derive(Clone, Copy)]
 pub(crate) enum Place {
     // A pair may begin here.
     Apart,
@@ -14,7 +14,7 @@ pub(crate) enum Place {
 }
 
 // What a character makes.
-#[derive(Drop)]
+#[derive(Clone, Copy)]
 pub(crate) enum Token {
     // No pair: the reader goes on from this place.
     Passed(Place),

@@ -7,7 +7,7 @@ use translate::{Translated, Translation, flush, translate_words};
 use translate_state::{ChannelState, Midi1ToMidi2Group};
 
 // The translator after an item, and the answer.
-#[derive(Drop)]
+#[derive(Clone, Copy)]
 pub(crate) struct TranslatorAnswered {
     pub(crate) translator: Midi1ToMidi2Group,
     pub(crate) line: Line,

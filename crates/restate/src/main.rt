@@ -1,5 +1,7 @@
 // Reads the setup file of a course on standard input, and writes the restatement of its settings on standard output. A file that is refused gives one
 // line on standard error, with the number of the refusal and its meaning, and no byte.
+#![tactic(auto)]
+
 use libc::{STDERR_FILENO, STDIN_FILENO, STDOUT_FILENO};
 use restatement::restatement_bytes;
 use settings::Settings;

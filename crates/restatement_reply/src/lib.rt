@@ -1,4 +1,6 @@
 // What a writer of a restatement answers: which settings are allowed, and how many messages and bytes it needs (document 01, "Restatement").
+#![tactic(auto)]
+
 ghost use Rattle.std.specs.Prelude.{◌≡◌};
 ghost use Rattle.zone_sender.specs.Zone.{written_read};
 ghost use Rattle.settings.specs.Settings.{zone_allowed, channel_allowed, and_channel, channels_allowed, allowed};

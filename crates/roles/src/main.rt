@@ -1,10 +1,12 @@
 // Prints the roles of a layout, given by the member counts of Lower and of Upper: a line for each channel, with its number and its role,
 // or `-` for a channel in no zone.
+#![tactic(auto)]
+
 use libc::{STDERR_FILENO, STDOUT_FILENO};
 use mpe_layout::{FoundRole, MadeLayout, MpeLayout, MpeRole, MpeZone};
 
 // What an argument says.
-#[derive(Drop)]
+#[derive(Clone, Copy)]
 enum Given {
     // 0 to 15
     Members(u8),
@@ -12,7 +14,7 @@ enum Given {
 }
 
 // What the arguments ask for.
-#[derive(Drop)]
+#[derive(Clone, Copy)]
 enum Asked {
     // The member counts of Lower and of Upper.
     Layout(u8, u8),

@@ -1,11 +1,13 @@
 // Scaling of values between resolutions (scale.rs; M2-115): Min-Center-Max Scaling (3), and Zero-Extension Scaling with Rounding (4).
+#![tactic(auto)]
+
 ghost use Rattle.std.specs.Prelude.{◌≡◌, ◌-◌, ◌*◌, ◌/◌, ◌%◌, ◌^◌, ◌<◌, ◌≤◌, ltb};
 ghost use Rattle.scale.specs.Scale.{scaled_read, widens, narrows, repeated, widened, upscaled, downscaled, zero_upscaled, zero_downscaled};
 ghost use Rattle.scale.specs.Claims.{Narrowed, OfValue, Widened, OneWidened, UpscaleKeeps, UpscaleRises, DownscaleReturns, ZeroExtended, Rounded, ZeroDownscaleReturns};
 ghost use Rattle.scale.specs.Examples.{ScalesAsTabled};
 
 // What a call answers: the scaled value, or out of range.
-#[derive(Drop)]
+#[derive(Clone, Copy)]
 pub enum Scaled {
     Value(u32),
     OutOfRange,

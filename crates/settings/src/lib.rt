@@ -1,4 +1,6 @@
 // Settings of an end. What brings an end to them, and the theorem about it, stand in specs/ and proofs/.
+#![tactic(auto)]
+
 ghost use Rattle.std.specs.Prelude.{◌≡◌, true};
 ghost use Rattle.settings.specs.Settings.{new_zone, new_settings, allowed};
 
@@ -7,7 +9,7 @@ use mpe_pitch::MpeSensitivity;
 
 // What is set for a zone: the sensitivities of its manager and of its members, semitones 0 to 96 and cents 0 to 99, and mode 3 or 4. Of a zone
 // without members nothing is read.
-#[derive(Drop)]
+#[derive(Clone, Copy)]
 pub struct ZoneSettings {
     pub manager: MpeSensitivity,
     pub member: MpeSensitivity,
@@ -15,7 +17,7 @@ pub struct ZoneSettings {
 }
 
 // The settings of an end: a layout, its zones, and for each channel bend 0 to 0x3FFF, pressure and brightness 0 to 127.
-#[derive(Drop)]
+#[derive(Clone, Copy)]
 pub struct Settings {
     pub layout: MpeLayout,
     pub lower: ZoneSettings,

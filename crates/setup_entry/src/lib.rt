@@ -1,5 +1,7 @@
 // One entry of the setup file of a course (document 02, 2026-07): whether it is taken, and the settings with what it says. Every form of the file is read
 // by this, entry after entry.
+#![tactic(auto)]
+
 ghost use Rattle.std.specs.Prelude.{◌≡◌, true, ◌+◌, ◌*◌, ◌<◌, ◌≤◌, ◌^◌, length};
 ghost use Rattle.setup_entry.specs.Entry.{setup_read, settings_taken, zone_entry_in, channel_entry_in};
 ghost use Rattle.setup_file.specs.Format.{entry_size, number_in, zone_entry_within, channel_entry_within, entry_within, unlisted, with_zone, with_channel, settings_with};
@@ -11,7 +13,7 @@ use settings::{Settings, ZoneSettings};
 use setup_file::{Section, at_rest, entry_size};
 
 // What a reader answers: something was read, or 1, 4 or 5.
-#[derive(Drop)]
+#[derive(Clone, Copy)]
 pub enum SetupReply {
     Read,
     OutOfRange,
@@ -20,14 +22,14 @@ pub enum SetupReply {
 }
 
 // The reply for an entry, and the settings with what it says; where it is refused, the settings as they were.
-#[derive(Drop)]
+#[derive(Clone, Copy)]
 pub struct EntryTaken {
     pub reply: SetupReply,
     pub settings: Settings,
 }
 
 // The entry of a zone.
-#[derive(Drop)]
+#[derive(Clone, Copy)]
 struct ZoneEntry {
     number: u8,
     members: u8,
@@ -35,7 +37,7 @@ struct ZoneEntry {
 }
 
 // The entry of a channel; msb and lsb are the halves of its bend.
-#[derive(Drop)]
+#[derive(Clone, Copy)]
 struct ChannelEntry {
     number: u8,
     msb: u8,

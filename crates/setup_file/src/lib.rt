@@ -1,10 +1,12 @@
 // The setup file of a course (document 02, 2026-07): its sections, which channels it leaves out, and which labels it may have. What a file is, what it
 // says and what holds of all files stand in specs/ and proofs/.
+#![tactic(auto)]
+
 ghost use Rattle.std.specs.Prelude.{◌≡◌, ◌/◌, ◌%◌, ◌^◌};
 ghost use Rattle.setup_file.specs.Format.{most, entry_size, at_rest, printable, label_allowed};
 
 // The sections of a setup file that have entries.
-#[derive(Drop)]
+#[derive(Clone, Copy)]
 pub enum Section {
     Zones,
     Channels,

@@ -1,4 +1,6 @@
 // The reader of the setup file of a course (document 02, 2026-07): its settings, and its label as the part of the file that holds it.
+#![tactic(auto)]
+
 ghost use Rattle.std.specs.Prelude.{◌≡◌, true, ◌+◌, ◌*◌, ◌<◌, ◌≤◌, ◌^◌, length, drop};
 ghost use Rattle.setup_reader.specs.Progress.{setup_read, progress_of, zone_entry_at, channel_entry_at};
 ghost use Rattle.setup_file.specs.Format.{entry_size, number_in, zone_entry_within, channel_entry_within, entry_within, at_rest, unlisted, with_zone, with_channel, settings_with};
@@ -14,7 +16,7 @@ use settings::{Settings, ZoneSettings};
 use setup_file::{Section, is_printable, most_entries};
 
 // What the reader answers: the file was read, or 1, 4 or 5.
-#[derive(Drop)]
+#[derive(Clone, Copy)]
 pub enum SetupReply {
     Read,
     OutOfRange,
@@ -23,14 +25,14 @@ pub enum SetupReply {
 }
 
 // The reply, and the settings of the file; where it is refused, new settings.
-#[derive(Drop)]
+#[derive(Clone, Copy)]
 pub struct SetupRead {
     pub reply: SetupReply,
     pub settings: Settings,
 }
 
 // The entry of a zone.
-#[derive(Drop)]
+#[derive(Clone, Copy)]
 struct ZoneEntry {
     number: u8,
     members: u8,
@@ -38,7 +40,7 @@ struct ZoneEntry {
 }
 
 // The entry of a channel; msb and lsb are the halves of its bend.
-#[derive(Drop)]
+#[derive(Clone, Copy)]
 struct ChannelEntry {
     number: u8,
     msb: u8,
@@ -48,7 +50,7 @@ struct ChannelEntry {
 }
 
 // How far a file has been read: the settings so far and the place of the next byte, or why it is refused.
-#[derive(Drop)]
+#[derive(Clone, Copy)]
 struct Progress {
     reply: SetupReply,
     settings: Settings,

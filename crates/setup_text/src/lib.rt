@@ -1,12 +1,14 @@
 // The text form of a setup file (document 02, 2026-07): the words of its lines. What a text is, what it says and what holds of all texts stand in specs/
 // and proofs/.
+#![tactic(auto)]
+
 ghost use Rattle.std.specs.Prelude.{◌≡◌, length, get_or};
 ghost use Rattle.setup_text.specs.Text.{line_fields};
 
 use setup_file::Section;
 
 // The words of a line: which zone, which mode, a number, or a word that stands as it is.
-#[derive(Drop)]
+#[derive(Clone, Copy)]
 pub enum Field {
     Zone,
     Mode,

@@ -1,4 +1,6 @@
 // The reader of the text form of a setup file (document 02, 2026-07): the settings and the label that a text says, or its first faulty line.
+#![tactic(auto)]
+
 ghost use Rattle.std.specs.Prelude.{◌≡◌, List, ◌∷◌, ℕ, ◌+◌, ◌-◌, ◌<◌, ◌≤◌, length, take, drop};
 ghost use Rattle.ump.specs.Choice.{if◌then◌else◌};
 ghost use Rattle.ump.specs.Outcome.{given};
@@ -17,7 +19,7 @@ use setup_file::{Section, label_allowed};
 use setup_text::{Field, field_at, field_count};
 
 // The reply, the faulty line, counted from 1, and the settings of the text. A text that is read has line 0, and one that is refused has new settings.
-#[derive(Drop)]
+#[derive(Clone, Copy)]
 pub struct TextRead {
     pub reply: SetupReply,
     pub line: usize,
@@ -25,21 +27,21 @@ pub struct TextRead {
 }
 
 // The number that a word says, if it says one.
-#[derive(Drop)]
+#[derive(Clone, Copy)]
 enum Said {
     Value(u32),
     Nothing,
 }
 
 // The numbers that the words of a line say, if it has the form of a section.
-#[derive(Drop)]
+#[derive(Clone, Copy)]
 struct LineNumbers {
     found: bool,
     numbers: [u32; 8],
 }
 
 // What a line is: one that says nothing, the line of an entry, the line of a label, or no item.
-#[derive(Drop)]
+#[derive(Clone, Copy)]
 enum ItemKind {
     Silent,
     Entry,
@@ -48,7 +50,7 @@ enum ItemKind {
 }
 
 // The item of a line; of an entry its section and its numbers.
-#[derive(Drop)]
+#[derive(Clone, Copy)]
 struct LineItem {
     kind: ItemKind,
     section: Section,
@@ -57,7 +59,7 @@ struct LineItem {
 
 // How far a text has been read: what it said so far, or why the line is refused; the least place that the next item may have; where the label starts
 // and ends; and how many lines were read.
-#[derive(Drop)]
+#[derive(Clone, Copy)]
 struct Progress {
     reply: SetupReply,
     settings: Settings,

@@ -1,4 +1,6 @@
 // The writer of the setup file of a course (document 02, 2026-07).
+#![tactic(auto)]
+
 ghost use Rattle.std.specs.Prelude.{◌≡◌, true, ℕ, ◌+◌, ◌*◌, ◌<◌, ◌≤◌, ◌^◌, length, take};
 ghost use mathlib.Core.List.{◌∷◌, flatten};
 ghost use Rattle.std.proofs.lemmas.List.Edits.{sets};

@@ -2,7 +2,7 @@
 ghost use Rattle.std.specs.Prelude.{◌+◌, ◌^◌, ◌<◌};
 
 // What an argument says.
-#[derive(Drop)]
+#[derive(Clone, Copy)]
 enum Given {
     // 0 to 127
     Number(u8),
@@ -63,7 +63,7 @@ fn is_remainder(i: usize) -> bool {
 }
 
 // What an argument asks for, a pair of numbers together with the one after it.
-#[derive(Drop)]
+#[derive(Clone, Copy)]
 pub(crate) enum Asked {
     Remainder,
     // Semitones and cents.

@@ -1,5 +1,6 @@
 // Prints, for each sensitivity that its arguments name by semitones and cents, every bend value and its pitch offset in hundredths of a cent.
 // A line has semitones, cents, bend value and offset, and for the sensitivities after the word `--remainder` the offset's remainder.
+#![tactic(auto)]
 
 mod arguments;
 

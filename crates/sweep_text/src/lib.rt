@@ -1,4 +1,6 @@
 // The text of a sweep's line: semitones, cents, bend value and offset, and the remainder where it is asked for.
+#![tactic(auto)]
+
 ghost use Rattle.std.specs.Prelude.{◌≡◌, ◌∷◌, ◌++◌, ◌+◌, ◌≤◌};
 ghost use Rattle.sweep_text.specs.Decimal.{decimal, signed_decimal};
 ghost use Rattle.sweep_text.specs.Line.{text_of, Filled, Room, line_end, fifth, sweep_line};
@@ -7,7 +9,7 @@ ghost use Rattle.sweep_text.specs.Claims.{ColumnsRead, LinesAsTabled};
 use mpe_pitch::{MpeSensitivity, pitch_offset_with_remainder, unsigned_abs};
 
 // A text, made from its end: the bytes from `from` on. Before it stand line ends.
-#[derive(Drop)]
+#[derive(Clone, Copy)]
 pub struct LineText {
     pub bytes: [u8; 64],
     pub from: usize,

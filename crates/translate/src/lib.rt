@@ -1,4 +1,6 @@
 // From MIDI 1.0 to MIDI 2.0 channel voice messages (translate.rs): the two words of a message, or nothing, and the next record.
+#![tactic(auto)]
+
 ghost use Rattle.std.specs.Prelude.{◌≡◌, ◌<◌, ◌≤◌, ◌^◌};
 ghost use Rattle.scale.specs.Scale.{scaled_read, widened, zero_extended};
 ghost use Rattle.translate_state.specs.State.{value_in, new_record};
@@ -17,7 +19,7 @@ use translate_state::{ChannelState, Midi1ToMidi2Group};
 use ump::channel_voice1::{channel, first_data, group, is_message, opcode, second_data};
 
 // What a message gives: the two words of a MIDI 2.0 message, or nothing.
-#[derive(Drop)]
+#[derive(Clone, Copy)]
 pub enum Translation {
     Words(u32, u32),
     Nothing,
@@ -25,14 +27,14 @@ pub enum Translation {
 }
 
 // The record after a call, and its answer.
-#[derive(Drop)]
+#[derive(Clone, Copy)]
 pub struct Translated {
     pub translator: Midi1ToMidi2Group,
     pub reply: Translation,
 }
 
 // A channel after a message, and what it gave.
-#[derive(Drop)]
+#[derive(Clone, Copy)]
 struct Stepped {
     state: ChannelState,
     reply: Translation,

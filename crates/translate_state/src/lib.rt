@@ -1,11 +1,13 @@
 // What is carried from one message to the next where MIDI 1.0 is translated to MIDI 2.0 (translate.rs): the held values of sixteen channels, and which
 // records are accepted.
+#![tactic(auto)]
+
 ghost use Rattle.std.specs.Prelude.{◌≡◌, ◌<◌, ◌≤◌, ◌^◌, ◌&&◌, eqb};
 ghost use Rattle.translate_state.specs.State.{new_record, held_allowed, flags_allowed, state_allowed, record_allowed};
 
 // The held values of one channel, each the value and 1, and 0 for none: controllers 101, 100, 99, 98, 6, 0 and 32. Flags: bits 0 and 1 the kind of
 // parameter selected last (0 none, 1 registered, 2 assignable); bit 2, the Data Entry MSB was not sent yet; bit 3, Reset All Controllers came meanwhile.
-#[derive(Drop)]
+#[derive(Clone, Copy)]
 pub struct ChannelState {
     pub rpn_msb: u8,
     pub rpn_lsb: u8,
@@ -18,7 +20,7 @@ pub struct ChannelState {
 }
 
 // The record that is carried from one message to the next: the held values of the sixteen channels of a group.
-#[derive(Drop)]
+#[derive(Clone, Copy)]
 pub struct Midi1ToMidi2Group {
     pub state: [ChannelState; 16],
 }

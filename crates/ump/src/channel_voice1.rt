@@ -9,28 +9,28 @@ ghost use Rattle.ump.specs.Outcome.{all_of};
 use crate::packet::{Channel, Group};
 
 // What a constructor of a message answers: its word, or out of range.
-#[derive(Drop)]
+#[derive(Clone, Copy)]
 pub enum Message {
     Word(u32),
     OutOfRange,
 }
 
 // What a writer of two messages answers.
-#[derive(Drop)]
+#[derive(Clone, Copy)]
 pub enum TwoWords {
     Words(u32, u32),
     OutOfRange,
 }
 
 // What a writer of three messages answers.
-#[derive(Drop)]
+#[derive(Clone, Copy)]
 pub enum ThreeWords {
     Words(u32, u32, u32),
     OutOfRange,
 }
 
 // What a writer of four messages answers.
-#[derive(Drop)]
+#[derive(Clone, Copy)]
 pub enum FourWords {
     Words(u32, u32, u32, u32),
     OutOfRange,
@@ -87,6 +87,7 @@ fn bit(word: u32, k: u32) -> u8
 }
 
 // The form of a message, by message type, the bit above each data byte, opcode and second data byte.
+#[tactic(auto, unfolding(crate::specs::Word::form_of))]
 fn has_form(message_type: u8, above_first: u8, above_second: u8, opcode: u8, second: u8) -> bool
     ensures { result ≡ form_of message_type above_first above_second opcode second }
 {
@@ -115,6 +116,7 @@ fn has_form(message_type: u8, above_first: u8, above_second: u8, opcode: u8, sec
 }
 
 // The word has the form of a message, whatever its group.
+#[tactic(auto, unfolding(crate::specs::Word::word_form))]
 pub fn is_message(word: u32) -> bool
     ensures { result ≡ word_form word }
 {
@@ -141,6 +143,7 @@ fn word_of(opcode: u8, group: u8, channel: u8, a: u8, b: u8) -> u32
 }
 
 // A message of two data bytes.
+#[tactic(auto, unfolding(crate::specs::Word::two_data_word))]
 fn two_data(opcode: u8, group: u8, channel: u8, a: u8, b: u8) -> Message
     requires { (opcode < 16) × (group < 16) × (channel < 16) }
     ensures { message_made result ≡ two_data_word opcode group channel a b }
@@ -155,6 +158,7 @@ fn two_data(opcode: u8, group: u8, channel: u8, a: u8, b: u8) -> Message
 }
 
 // A message of one data byte.
+#[tactic(auto, unfolding(crate::specs::Word::one_data_word))]
 fn one_data(opcode: u8, group: u8, channel: u8, a: u8) -> Message
     requires { (opcode < 16) × (group < 16) × (channel < 16) }
     ensures { message_made result ≡ one_data_word opcode group channel a }
@@ -166,6 +170,7 @@ fn one_data(opcode: u8, group: u8, channel: u8, a: u8) -> Message
 }
 
 // A Pitch Bend of a group and a channel below 16.
+#[tactic(auto, unfolding(crate::specs::Word::bend_word))]
 fn bend(group: u8, channel: u8, value: u16) -> Message
     requires { (group < 16) × (channel < 16) }
     ensures { message_made result ≡ bend_word group channel value }
@@ -179,7 +184,7 @@ fn bend(group: u8, channel: u8, value: u16) -> Message
 }
 
 // Note On, opcode 9.
-#[derive(Drop)]
+#[derive(Clone, Copy)]
 pub struct Midi1NoteOn {}
 
 impl Midi1NoteOn {
@@ -192,7 +197,7 @@ impl Midi1NoteOn {
 }
 
 // Control Change, opcode B.
-#[derive(Drop)]
+#[derive(Clone, Copy)]
 pub struct Midi1ControlChange {}
 
 impl Midi1ControlChange {
@@ -205,7 +210,7 @@ impl Midi1ControlChange {
 }
 
 // Channel Pressure, opcode D.
-#[derive(Drop)]
+#[derive(Clone, Copy)]
 pub struct Midi1ChannelPressure {}
 
 impl Midi1ChannelPressure {
@@ -218,7 +223,7 @@ impl Midi1ChannelPressure {
 }
 
 // Pitch Bend, opcode E.
-#[derive(Drop)]
+#[derive(Clone, Copy)]
 pub struct Midi1PitchBend {}
 
 impl Midi1PitchBend {

@@ -3,7 +3,7 @@ ghost use Rattle.std.specs.Prelude.{◌≡◌};
 ghost use Rattle.ump.specs.Controller.{rpn_given, rpn_parts, rpn_numbered, rpn_of};
 
 // A Registered Parameter Number (MIDI 1.0, Table IIIa), chosen by controllers 101 and 100.
-#[derive(Drop)]
+#[derive(Clone, Copy)]
 pub enum Rpn {
     // 00 00
     PitchBendSensitivity,
@@ -24,13 +24,14 @@ pub enum Rpn {
 }
 
 // The values of controllers 101 and 100.
-#[derive(Drop)]
+#[derive(Clone, Copy)]
 pub struct Parts {
     pub msb: u8,
     pub lsb: u8,
 }
 
 // The parameter of two 7-bit numbers.
+#[tactic(auto, unfolding(crate::specs::Controller::rpn_numbered))]
 fn numbered(msb: u8, lsb: u8) -> Rpn
     ensures { result ≡ rpn_numbered msb lsb }
 {

@@ -3,11 +3,11 @@ ghost use Rattle.std.specs.Prelude.{◌≡◌, ◌+◌, ◌%◌};
 ghost use Rattle.ump.specs.Packet.{from_index, from_number, group_made, channel_made, packet_value};
 
 // A Group, by its packet value 0 to 15.
-#[derive(Drop)]
+#[derive(Clone, Copy)]
 pub struct Group(u8);
 
 // What a call that makes a Group answers.
-#[derive(Drop)]
+#[derive(Clone, Copy)]
 pub enum MadeGroup {
     Made(Group),
     OutOfRange,
@@ -67,11 +67,11 @@ impl Group {
 }
 
 // A MIDI Channel, by its packet value 0 to 15.
-#[derive(Drop)]
+#[derive(Clone, Copy)]
 pub struct Channel(u8);
 
 // What a call that makes a Channel answers.
-#[derive(Drop)]
+#[derive(Clone, Copy)]
 pub enum MadeChannel {
     Made(Channel),
     OutOfRange,

@@ -1,4 +1,6 @@
 // The sensitivity messages of a whole zone (mpe.rs), written into a buffer.
+#![tactic(auto)]
+
 ghost use Rattle.std.specs.Prelude.{◌≡◌, true, ◌++◌, ◌+◌, ◌*◌, ◌<◌, ◌≤◌, length, drop};
 ghost use Rattle.mpe_sender.specs.Writers.{sensitivity_group, sensitivity_allowed};
 ghost use Rattle.zone_sender.specs.Zone.{group_size, channel_at, sensitivity_at_place, group_at, InRange, groups, zone_words, fill_reply, zone_reply, filled, written_read};
@@ -10,7 +12,7 @@ use mpe_sender::{ActiveZone, active_zone, sensitivity_allowed, sensitivity_messa
 use ump::channel_voice1::FourWords;
 
 // What a call that writes into a buffer answers, in words.
-#[derive(Drop)]
+#[derive(Clone, Copy)]
 pub enum Written {
     Count(usize),
     OutOfRange,
@@ -21,7 +23,7 @@ pub enum Written {
 const GROUP_WORDS: usize = 4;
 
 // The channels of a zone's groups, and their sensitivities.
-#[derive(Drop)]
+#[derive(Clone, Copy)]
 struct ZoneGroups {
     manager: u8,
     lowest: u8,
