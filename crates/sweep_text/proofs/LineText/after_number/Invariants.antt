@@ -1,0 +1,17 @@
+-- `sweep_text::LineText::after_number` meets its contract: each turn puts the last digit of what is left before the text.
+use mathlib.Core.Path.{◌≡◌, refl, ◌∙◌, ap, sym}
+use mathlib.Core.List.{List, ◌++◌}
+use Prim.Native.Nat.{ℕ, ◌+◌, ◌-◌, ◌/◌, ◌^◌, ◌<◌, ◌≤◌}
+use native.Mathlib.Omega.{arith}
+use borrow.Author.Rules.{rules}
+use Rattle.sweep_text.specs.Decimal.{decimal}
+use Rattle.sweep_text.specs.Line.{text_of, Filled}
+use Rattle.sweep_text.proofs.Digits.{one-digit, last-first, one_fewer}
+use Rattle.sweep_text.proofs.LineText.after_number.Given as goal
+
+abbrev pub invariant-loop-rest : goal.invariant-loop-rest
+invariant-loop-rest l =
+    (decimal l.rest ++ text_of l.line ≡ decimal l.n ++ text_of l.initial.line) × (l.rest < 10 ^ (l.line.from + 10 - l.initial.line.from)) × (l.initial.line.from ≤ l.line.from + 9) × (l.line.from ≤ l.initial.line.from) × Filled l.line
+
+abbrev pub decreases-loop-rest : goal.decreases-loop-rest
+decreases-loop-rest l = l.rest
