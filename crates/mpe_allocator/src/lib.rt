@@ -6,7 +6,7 @@ ghost use Rattle.ump.specs.Packet.{packet_value};
 ghost use Rattle.ump.specs.Choice.{if◌then◌else◌};
 ghost use Rattle.mpe_allocator.specs.Choice.{held_on, tie_first, smaller_first, recalls};
 ghost use Rattle.mpe_allocator.specs.Allocator.{emptied, note_reply_read, one_more, Placed, AllocatedAs, allocation_of, tick, without_note, with_option};
-ghost use Rattle.mpe_allocator.specs.Calls.{note-on, note-off, active-notes, same-note, set-same-note, reset, note-reply, count, option, nothing, CallGives, CountsSum};
+ghost use Rattle.mpe_allocator.specs.Calls.{note_on, note_off, active_notes, same_note, set_same_note, reset, note_reply, count, option, nothing, CallGives, CountsSum};
 ghost use Rattle.mpe_allocator.specs.Examples.{AllocatesAsTabled};
 ghost use Rattle.mpe_allocator.specs.Stored.{AlwaysStored};
 ghost use Rattle.mpe_allocator.specs.Filling.{FillsFromManager};
@@ -158,7 +158,7 @@ impl MpeNoteAllocator {
     pub fn note_on(self, layout: MpeLayout, zone: MpeZone, note: u8) -> Allocation
         ensures chosen { AllocatedAs self layout zone note (note_reply_read result.reply) result.allocator }
         ensures is { result ≡ allocation_of self layout zone note }
-        ensures listed { CallGives self (note-on layout zone note) (note-reply result.reply) result.allocator }
+        ensures listed { CallGives self (note_on layout zone note) (note_reply result.reply) result.allocator }
         ensures member { OfChannel result.reply (ChosenIsMember layout zone) }
         ensures one { OfChannel result.reply (OneChosen self layout zone note) }
         ensures recall { OfChannel result.reply (RecallChosen self layout zone note) }
@@ -190,7 +190,7 @@ impl MpeNoteAllocator {
     // A note on `channel` ended. A channel without a held note changes nothing.
     pub fn note_off(self, channel: u8) -> MpeNoteAllocator
         ensures is { result ≡ without_note self (packet_value channel) }
-        ensures listed { CallGives self (note-off channel) nothing result }
+        ensures listed { CallGives self (note_off channel) nothing result }
     {
         let c = (channel % 16) as usize;
         let held = self.active[c];
@@ -208,7 +208,7 @@ impl MpeNoteAllocator {
     // The count of held notes on `channel`.
     pub fn active_notes(self, channel: u8) -> u8
         ensures is { result ≡ held_on self (packet_value channel) }
-        ensures listed { CallGives self (active-notes channel) (count result) self }
+        ensures listed { CallGives self (active_notes channel) (count result) self }
     {
         let c = (channel % 16) as usize;
         self.active[c]
@@ -217,7 +217,7 @@ impl MpeNoteAllocator {
     // The same-note option of A.3.
     pub fn same_note(self) -> bool
         ensures is { result ≡ self.same_note }
-        ensures listed { CallGives self same-note (option result) self }
+        ensures listed { CallGives self same_note (option result) self }
     {
         self.same_note
     }
@@ -225,7 +225,7 @@ impl MpeNoteAllocator {
     // The same-note option on or off.
     pub fn set_same_note(self, on: bool) -> MpeNoteAllocator
         ensures is { result ≡ with_option self on }
-        ensures listed { CallGives self (set-same-note on) nothing result }
+        ensures listed { CallGives self (set_same_note on) nothing result }
     {
         let mut a = self;
         a.same_note = on;

@@ -5,7 +5,7 @@ ghost use Rattle.std.specs.Prelude.{◌≡◌, ◌<◌, ◌≤◌, ◌^◌};
 ghost use Rattle.scale.specs.Scale.{scaled_read, widened, zero_extended};
 ghost use Rattle.translate_state.specs.State.{value_in, new_record};
 ghost use Rattle.translate.specs.Translate.{translation_read, given_or0, first_word, controller_data, controller_numbered, controller, joined_value, pending_words, channel_step, entered_after, msb_entered, lsb_entered, passed_on, control_changed, bank_words, program_words, note_words, message_translated, with_state, translation_of, record_after, flush_reply, flushed_record};
-ghost use Rattle.translate.specs.Lists.{translate-words, flush, TranslatorGives, ListContinues, Formed, ExactlyAccepted, OthersRefused, OthersMet};
+ghost use Rattle.translate.specs.Lists.{translate_words, flush, TranslatorGives, ListContinues, Formed, ExactlyAccepted, OthersRefused, OthersMet};
 ghost use Rattle.translate.specs.Rules.{NoNumberRules, TranslatedByRules};
 
 mod channel;
@@ -381,7 +381,7 @@ fn replying(translator: Midi1ToMidi2Group, c: usize, stepped: Stepped) -> Transl
 pub fn translate_words(translator: Midi1ToMidi2Group, word: u32) -> Translated
     ensures reply { translation_read result.reply ≡ translation_of translator word }
     ensures state { result.translator ≡ record_after translator word }
-    ensures listed { TranslatorGives translator (translate-words word) (translation_read result.reply) result.translator }
+    ensures listed { TranslatorGives translator (translate_words word) (translation_read result.reply) result.translator }
     ensures words { ListContinues translator word (translation_read result.reply) result.translator }
     ensures exact { ExactlyAccepted new_record }
     ensures others { OthersRefused translator × OthersMet }
