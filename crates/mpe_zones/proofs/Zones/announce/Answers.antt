@@ -1,5 +1,4 @@
 -- `mpe_zones::Zones::announce` meets its contract: more than 15 members, and an illegal layout, are declined.
--- Assumes nothing.
 use Prim.Native.Nat.{ℕ}
 use mathlib.Core.Path.{◌≡◌, ap, sym, ◌∙◌}
 use mathlib.Core.Bool.{Bool, true, false, true≢false}
@@ -14,8 +13,7 @@ use Rattle.mpe_reset.specs.Reset.{announcement_mask, mask_or_zero}
 use Rattle.mpe_layout.proofs.Mcm.{mcm-legal}
 use Rattle.mpe_zones.specs.Zones.{with_layout, activated_if, zones_announced, announced_reply}
 use Rattle.mpe_zones.proofs.Activation.{activates}
-use Rattle.mpe_zones.proofs.Zones.announce.Statement.{statement}
-use Rattle.mpe_zones.proofs.Zones.announce.Tie as tie
+use Rattle.mpe_zones.proofs.Zones.announce.Goals as goal
 
 layout_in : MpeLayout → Outcome MpeLayout → MpeLayout
 layout_in l (given after) = after
@@ -25,7 +23,6 @@ is_given : Outcome MpeLayout → Bool
 is_given (given after) = true
 is_given (declined n v) = false
 
--- an announcement gives a layout exactly where the one before is legal
 module _ (l : MpeLayout) (zone : MpeZone) (members : ℕ) where
   given-legal : {after : MpeLayout} → given after ≡ mcm_layout l zone members → legal l ≡ true
   unfolding is_given
@@ -44,75 +41,43 @@ module _ (l : MpeLayout) (zone : MpeZone) (members : ℕ) where
       (λ h. absurd (true≢false (sym (ap is_given (e ∙ chosen (given (with_mcm l zone members)) out_of_range h)))))
       (λ h. h)
 
-declined-requires : tie.Need-declined-requires
-declined-requires c κs = search rules
+pub returns-then-members-gt15 : goal.returns-then-members-gt15
+unfolding announced_reply zones_announced
+returns-then-members-gt15 c =
+    let more = lt-ltb _ _ c.if-members-gt15.true in
+     record {
+      reply = rw more c.declined.ensures.0;
+      zones = rw more c.declined.ensures.1;
+      activates = activates;
+    }
 
-returns : tie.Need-returns
+pub returns-in_default : goal.returns-in_default
+unfolding announced_reply zones_announced
+returns-in_default c =
+    let a = c.args in
+    let within = le-ltb _ _ c.if-members-gt15.false in
+    let h = declined-illegal a.self.layout a.zone a.members (ap layout_made (sym c.in_default.is) ∙ c.with_mcm.ensures) in
+     record {
+      reply = rw (within, h) c.declined-in_default.ensures.0;
+      zones = rw (within, h) c.declined-in_default.ensures.1;
+      activates = activates;
+    }
+
+pub returns : goal.returns
 unfolding announced_reply zones_announced
 returns c =
-    let more = lt-ltb _ _ c.before.if1.true in
-    (rw more c.declined.ensures.0, (rw more c.declined.ensures.1, activates))
-
-with-mcm-requires : tie.Need-with-mcm-requires
-with-mcm-requires c κs = search rules
-
-enum-known-after : tie.Need-enum-known-after
-enum-known-after c = search rules
-
-enum_told : tie.Need-enum-told
-enum_told c = search rules
-
-declined-requires-2 : tie.Need-declined-requires-2
-declined-requires-2 c κs = search rules
-
-returns-2 : tie.Need-returns-2
-unfolding announced_reply zones_announced
-returns-2 c =
-    let m = c.before.before.before in
-    let a = m.before.before.before.args in
-    let within = le-ltb _ _ m.before.before.if1.false in
-    let h = declined-illegal a.self.layout a.zone a.members (ap layout_made (sym c.before.enum_told.given.1) ∙ m.call_with_mcm.ensures) in
-    (rw (within, h) c.declined2.ensures.0, (rw (within, h) c.declined2.ensures.1, activates))
-
-announcement-reset-requires : tie.Need-announcement-reset-requires
-announcement-reset-requires c κs = search rules
-
-mask-or-zero-requires : tie.Need-mask-or-zero-requires
-mask-or-zero-requires c κs = search rules
-
-activate-if-requires : tie.Need-activate-if-requires
-activate-if-requires c κs = search rules
-
-returns-3 : tie.Need-returns-3
-unfolding announced_reply zones_announced
-returns-3 c =
-    let r = c.before.before in
-    let k = r.before.before in
-    let m = k.before.before in
-    let a = m.before.before.before.args in
+    let a = c.args in
     let l = a.self.layout in
-    let within = le-ltb _ _ m.before.before.if1.false in
-    let e = ap layout_made (sym k.after.given.1) ∙ m.call_with_mcm.ensures in
+    let within = le-ltb _ _ c.if-members-gt15.false in
+    let e = ap layout_made (sym c.in-Made.is) ∙ c.with_mcm.ensures in
     let h = given-legal l a.zone a.members e in
     let to = given-after l a.zone a.members e in
-    let mask = r.announcement-reset.ensures ∙ ap (λ x. of_legal l (of_legal x (given (announcement_mask l x a.zone)))) to in
-    let zones = c.activate-if.ensures ∙ ap (λ x. activated_if a.members (with_layout a.self x) a.zone) to in
+    let mask = c.announcement_reset.ensures ∙ ap (λ x. of_legal l (of_legal x (given (announcement_mask l x a.zone)))) to in
+    let zones = c.activate_if-zones.ensures ∙ ap (λ x. activated_if a.members (with_layout a.self x) a.zone) to in
     let found : of_legal l (of_legal (with_mcm l a.zone a.members) (given (announcement_mask l (with_mcm l a.zone a.members) a.zone)))
     ≡ given (announcement_mask l (with_mcm l a.zone a.members) a.zone) = rw (h, mcm-legal l a.zone a.members h) in
-    (rw (within, h) (ap given (c.before.mask-or-zero.ensures ∙ ap mask_or_zero (mask ∙ found))), (rw (within, h) zones, activates))
-
-pub announce-spec : {M : Type 1} → statement M
-announce-spec =
-    tie.close
-    (tie.spec
-    declined-requires
-    returns
-    with-mcm-requires
-    enum-known-after
-    enum_told
-    declined-requires-2
-    returns-2
-    announcement-reset-requires
-    mask-or-zero-requires
-    activate-if-requires
-    returns-3)
+     record {
+      reply = rw (within, h) (ap given (c.mask_or_zero-mask.ensures ∙ ap mask_or_zero (mask ∙ found)));
+      zones = rw (within, h) zones;
+      activates = activates;
+    }

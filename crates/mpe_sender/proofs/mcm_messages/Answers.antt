@@ -1,5 +1,4 @@
 -- `mpe_sender::mcm_messages` meets its contract: above 15 refused, else the group of RPN 0 6.
--- Assumes nothing.
 use borrow.Author.Tests.{le-ltb}
 use lib.Dec.{lit≤}
 use native.Mathlib.Omega.{arith}
@@ -13,28 +12,18 @@ use Rattle.ump.proofs.Auto.{auto}
 use Rattle.mpe_sender.proofs.Rpn.{rpn-given}
 use Rattle.mpe_sender.proofs.Zones.{manager-channel}
 use Rattle.mpe_sender.specs.Writers.{rpn_group, rpn_messages, mcm_messages}
-use Rattle.mpe_sender.proofs.mcm_messages.Statement.{statement}
-use Rattle.mpe_sender.proofs.mcm_messages.Tie as tie
+use Rattle.mpe_sender.proofs.mcm_messages.Goals as goal
 
-returns : tie.Need-returns
+pub returns-then-members-gt15 : goal.returns-then-members-gt15
 unfolding mcm_messages
-returns c = search auto
+returns-then-members-gt15 c = search auto
 
-manager-requires : tie.Need-manager-requires
-manager-requires c κs = search rules
-
-rpn-messages-requires : tie.Need-rpn-messages-requires
-rpn-messages-requires c κs = search rules
-
-returns-2 : tie.Need-returns-2
+pub returns : goal.returns
 unfolding mcm_messages
-returns-2 c = let a = c.before.before.before.args in
+returns c = let a = c.args in
     let h : a.members ≤ 15 = omega arith in
     rw (le-ltb 15 a.members h)
-    (c.rpn-messages.ensures
-    ∙ ap (λ m. rpn_messages m (Other 0 6) a.members) c.before.manager.ensures
+    (c.rpn_messages.ensures
+    ∙ ap (λ m. rpn_messages m (Other 0 6) a.members) c.manager.ensures
     ∙ rpn-given (manager_of a.zone) 0 6 a.members (lit≤ tt) (lit≤ tt) (omega arith)
     ∙ ap (λ m. given (rpn_group m 0 6 a.members)) (manager-channel a.zone))
-
-pub mcm-messages-spec : {M : Type 1} → statement M
-mcm-messages-spec = tie.close (tie.spec returns manager-requires rpn-messages-requires returns-2)
