@@ -16,8 +16,10 @@ use Rattle.mpe_event.specs.declared.AnnouncedZone.TheVariants.{Announced, NoneAn
 use Rattle.mpe_event.specs.declared.Decoded.{Decoded}
 use Rattle.mpe_event.specs.declared.Decoded.TheVariants.{Nothing, Configuration, BendSensitivity}
 use Rattle.mpe_event.specs.declared.ZonesUpdate.{ZonesUpdate}
+
 use Rattle.mpe_zones.specs.declared.Zones.{Zones}
 use Rattle.mpe_event.specs.Update.{announced, configured_by, configured_as, announced_on, sensitivity_update, mode_set, decoded, updated_as, message_update}
+use Rattle.mpe_zones.specs.Zones.{role_held}
 use Rattle.mpe_zones.specs.WellFormed.{ZonesFormed}
 use Rattle.mpe_zones.proofs.WellFormed.{mono-formed, announced-formed, changed-formed}
 
@@ -55,4 +57,4 @@ module _ (z : Zones) (w : ZonesFormed z) where
 
   pub update-formed : (e : MaybeEvent) (opcode channel a : ℕ) → ZonesFormed (message_update z e opcode channel a).zones
   update-formed e opcode channel a =
-      decoded-formed _ _ _ (decoded opcode e) a
+      decoded-formed channel (role_held z.layout channel) _ (decoded opcode e) a
