@@ -1,0 +1,17 @@
+-- `mpe_receiver::MpeReceiver::rest` meets its contract.
+use borrow.Author.Rules.{rules}
+use native.Mathlib.Omega.{arith}
+use Prim.Native.Nat.{◌≤◌, ◌-◌}
+use mathlib.Core.Path.{◌≡◌, refl, ap, ◌∙◌}
+use mathlib.Core.Bool.{true, false}
+use mathlib.Core.Logic.{⊎_elim}
+use Rattle.mpe_reset.specs.Reset.{named}
+use Rattle.mpe_receiver.specs.Receive.{put_where, rest_upto}
+use Rattle.mpe_receiver.proofs.Rest.{rest-next}
+use Rattle.mpe_receiver.proofs.MpeReceiver.rest.Given as goal
+
+abbrev pub invariant-loop-i : goal.invariant-loop-i
+invariant-loop-i l = (l.i ≤ 16) × (l.r ≡ rest_upto l.initial.r l.mask l.i)
+
+abbrev pub decreases-loop-i : goal.decreases-loop-i
+decreases-loop-i l = 16 - l.i
