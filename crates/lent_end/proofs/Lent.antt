@@ -1,7 +1,6 @@
 -- The lent byte call is the byte step: what it makes of an end's parts, each where it stands, is the end and the reply of `step_of`.
 -- Assumes nothing.
 use lib.Dec.{T}
-use Rattle.lent_end.proofs.Item.{taken, untaken}
 use Prim.Native.Nat.{ℕ, ◌%◌, ◌^◌, ◌<◌}
 use mathlib.Core.Path.{◌≡◌, refl, ap, ap₂, sym, ◌∙◌}
 use mathlib.Core.Bool.{Bool, true, false, not, true≢false}
@@ -44,6 +43,15 @@ use Rattle.receiving_end.specs.End.{blank_state, with_reader, with_receiver, wit
 use Rattle.receiving_end.specs.Lists.{answer, next, byte_lent, replied}
 use Rattle.lent_end.specs.Lent.{reader_only, word_taken, read_taken, taken_of, event_on_member, event_by_role, event_reply, settles_with, controlled_of, brightness_end, settled_end, settled_reply, updated_end, updated_reply, control_end, control_reply, message_end, message_reply}
 use Rattle.lent_end.proofs.Words.{Formed, Fine, read-fine}
+
+-- a choice by a test that holds, and by one that does not
+taken : {X : Type 0} (c : Bool) (x y : X) → T c → (if c then x else y) ≡ x
+taken true x y t = refl
+taken false x y t = absurd t
+
+untaken : {X : Type 0} (c : Bool) (x y : X) → T (not c) → (if c then x else y) ≡ y
+untaken true x y t = absurd t
+untaken false x y t = refl
 
 -- what a taken byte makes of an end that has the reader after it
 abbrev pub taken_end : End → Taken → End

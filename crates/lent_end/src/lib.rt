@@ -1,7 +1,7 @@
 // The byte call on a lent end: the end is taken apart and altered where it stands.
 #![tactic(auto)]
 
-ghost use Rattle.std.specs.Prelude.{◌≡◌};
+ghost use Rattle.std.specs.Prelude.{◌≡◌, ◌<◌, ◌^◌};
 ghost use Rattle.parameters.specs.State.{parameter_reply_read};
 ghost use Rattle.mpe_event.specs.Update.{in_mode4, mpe_reply_read};
 ghost use Rattle.receiving_end.specs.End.{event_in, mpe_in, step_reply, step_end};
@@ -103,7 +103,8 @@ fn take_read(s: ReadStep) -> Taken
 
 // What one byte is. Only a data byte completes a message. The two ways are equal: kept apart, they save some 15 instructions a byte (docs/BENCHMARKS.md).
 fn take(reader: Reader, b: u8) -> Taken
-    ensures { result ≡ taken_of reader b }
+    ensures taken { result ≡ taken_of reader b }
+    ensures status { reader.status < 2 ^ 8 }
 {
     if b < 0x80 {
         return take_read(reader.step(b));
