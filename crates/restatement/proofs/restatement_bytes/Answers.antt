@@ -1,0 +1,66 @@
+-- `restatement::restatement_bytes` meets its contract: refused, too small, or the bytes of all the messages, of which demand 3 holds, with its hypotheses met.
+use mathlib.Core.Path.{◌≡◌, sym, ap, subst, ◌∙◌}
+use Prim.Native.Nat.{ℕ, ◌+◌, ◌/◌, ◌^◌, ◌<◌}
+use mathlib.Core.List.{◌++◌}
+use lib.ListN.{length, take, drop, replicate}
+use lib.Dec.{lit<}
+use lib.Seq.{sets, length-sets}
+use Rattle.ump.specs.Outcome.{Outcome, given}
+use Rattle.zone_sender.specs.Zone.{filled, written_read}
+use Rattle.settings.specs.Messages.{messages, bytes, restatement, message_count, byte_count}
+use Rattle.settings.specs.Demand.{Demand}
+use Rattle.settings.specs.Witnesses.{Met}
+use Rattle.settings.proofs.Allowed.{allowed-legal}
+use Rattle.settings.proofs.Counts.{message-count, most-messages, byte-count}
+use Rattle.settings.proofs.Demand.{demand-holds}
+use Rattle.settings.proofs.Witnesses.{demand-met}
+use Rattle.restatement.proofs.Sets.{sets-front, take-front}
+use Rattle.restatement.proofs.Reply.{stays, not-counted, same_count, counted, messages-of}
+use borrow.Author.Rules.{rules}
+use native.Mathlib.Omega.{arith}
+use Rattle.restatement.proofs.restatement_bytes.Goals as goal
+
+pub write_messages-requires : goal.write_messages-requires
+write_messages-requires c = let s = c.args.settings in
+    let q = counted s _ _ _ (sym (ap written_read c.in-Count.is) ∙ c.bytes_reply-reply.ensures.reply) in
+    (q.is-allowed, most-messages s.layout (allowed-legal s q.is-allowed))
+
+pub write_bytes-requires : goal.write_bytes-requires
+write_bytes-requires c = let s = c.args.settings in
+    let q = counted s _ _ _ (sym (ap written_read c.in-Count.is) ∙ c.bytes_reply-reply.ensures.reply) in
+    let t = q.is-allowed in
+    let most = most-messages s.layout (allowed-legal s t) in
+    let ws = c.write_messages.new.out in
+    let v : take (message_count s.layout) ws ≡ messages s =
+    ap (λ l. take (message_count s.layout) l) c.write_messages.ensures
+    ∙ take-front (replicate 174 0) (messages s) (message_count s.layout) (message-count s t) most in
+    let n = c.messages_in.ensures ∙ ap (λ i. (i + 16) / 3) q.is-needed ∙ messages-of s.layout in
+    let f : length ws ≡ 174 = ap length c.write_messages.ensures ∙ simp length-sets in (
+      omega (arith, f, n, most),
+      rw (n, v) (omega (arith, byte-count s t, q.fits)),
+    )
+
+pub returns : goal.returns
+returns c = let s = c.args.settings in
+    let o = c.args.out.now in
+    let p = sym (ap written_read c.in-Count.is) ∙ c.bytes_reply-reply.ensures.reply in
+    let q = counted s _ _ _ p in
+    let t = q.is-allowed in
+    let ws = c.write_messages.new.out in
+    let v : take (message_count s.layout) ws ≡ messages s =
+    ap (λ l. take (message_count s.layout) l) c.write_messages.ensures
+    ∙ take-front (replicate 174 0) (messages s) (message_count s.layout) (message-count s t) (most-messages s.layout (allowed-legal s t)) in
+    let x = c.write_bytes.new.out in
+    let y : x ≡ sets o 0 (restatement s) =
+    c.write_bytes.ensures ∙ ap (λ l. sets o 0 (bytes l)) (ap (λ n. take n ws) (c.messages_in.ensures ∙ ap (λ i. (i + 16) / 3) q.is-needed ∙ messages-of s.layout) ∙ v) in
+    let n = byte-count s t in
+    let e : x ≡ restatement s ++ drop (byte_count s.layout) o = y ∙ sets-front o (restatement s) (rw n q.fits) ∙ rw n in
+    let first : take (byte_count s.layout) x ≡ restatement s =
+    ap (λ l. take (byte_count s.layout) l) y ∙ take-front o (restatement s) (byte_count s.layout) n q.fits in
+    let written : (i : ℕ) → ◌≡◌ {A = Outcome ℕ} (given _) (given i) → take i x ≡ restatement s =
+    λ i g. ap (λ r. take r x) (sym (same_count g) ∙ q.is-needed) ∙ first in  record {
+      reply = p;
+      buffer = e ∙ ap (λ i. filled (given i) (restatement s) o) (sym q.is-needed) ∙ ap (λ r. filled r (restatement s) o) p;
+      demand = λ i g. subst (λ l. Demand s l) (sym (written i g)) (demand-holds s t);
+      met = λ i g. subst (λ l. Met s l) (sym (written i g)) (demand-met s t);
+    }

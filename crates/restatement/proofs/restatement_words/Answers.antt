@@ -1,0 +1,42 @@
+-- `restatement::restatement_words` meets its contract: refused, too small, or all the messages; and the counts hold.
+use mathlib.Core.Path.{◌≡◌, sym, ap, ◌∙◌}
+use mathlib.Core.List.{◌++◌}
+use lib.ListN.{drop}
+use Rattle.ump.specs.Outcome.{given}
+use Rattle.zone_sender.specs.Zone.{filled, written_read}
+use Rattle.settings.specs.Messages.{messages, message_count}
+use Rattle.settings.proofs.Counts.{message-count, counts-hold}
+use Rattle.restatement.proofs.Sets.{sets-front}
+use Rattle.restatement.proofs.Reply.{stays, counted}
+use borrow.Enum.Refused.{opened}
+use borrow.Author.Rules.{rules}
+use Rattle.restatement.proofs.restatement_words.Goals as goal
+
+pub returns-in_default : goal.returns-in_default
+returns-in_default c = let s = c.args.settings in
+    let o = c.args.out.now in
+    let p = c.words_reply-reply.ensures.reply in
+     record {
+      reply = p;
+      buffer = stays c.words_reply-reply.result (messages s) o (opened c.in_default.in_default-own.keys2) ∙ ap (λ r. filled r (messages s) o) p;
+      counts = counts-hold;
+    }
+
+pub write_messages-requires : goal.write_messages-requires
+write_messages-requires c = let s = c.args.settings in
+    let q = counted s _ _ _ (sym (ap written_read c.in-Count.is) ∙ c.words_reply-reply.ensures.reply) in
+    (q.is-allowed, q.fits)
+
+pub returns : goal.returns
+returns c = let s = c.args.settings in
+    let o = c.args.out.now in
+    let p = sym (ap written_read c.in-Count.is) ∙ c.words_reply-reply.ensures.reply in
+    let q = counted s _ _ _ p in
+    let m = message-count s q.is-allowed in
+    let h : c.write_messages.new.out ≡ messages s ++ drop (message_count s.layout) o =
+    c.write_messages.ensures ∙ sets-front o (messages s) (rw m q.fits) ∙ rw m in
+     record {
+      reply = p;
+      buffer = h ∙ ap (λ i. filled (given i) (messages s) o) (sym q.is-needed) ∙ ap (λ r. filled r (messages s) o) p;
+      counts = counts-hold;
+    }
