@@ -1,0 +1,14 @@
+-- `setup_entry::with_entry` meets its contract: the entry of the section, put into the settings.
+use mathlib.Core.Bool.{true}
+use Rattle.setup_file.specs.Format.{entry_within}
+use Rattle.setup_file.proofs.Entries.{within-number}
+use mathlib.Core.Path.{◌≡◌, refl}
+use Rattle.setup_file.specs.declared.Section.TheVariants.{Zones, Channels}
+use borrow.Author.Rules.{rules}
+use Rattle.setup_entry.proofs.with_entry.Goals as goal
+
+pub with_channel-requires : goal.with_channel-requires
+with_channel-requires c = let e : c.args.section ≡ Channels = c.in-Channels.is in
+    let b = c.args.bytes.now in
+    let w : entry_within Channels b ≡ true = rw e at c.requires.1 in
+    rw c.channel_entry_in-entry.ensures (within-number Channels b w)
