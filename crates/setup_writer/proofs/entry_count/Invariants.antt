@@ -1,0 +1,15 @@
+-- `setup_writer::entry_count` meets its contract: after k turns the entries of the numbers below k are counted.
+use Prim.Native.Nat.{◌-◌, ◌<◌, ◌≤◌}
+use mathlib.Core.Path.{◌≡◌, refl, sym, ap, ◌∙◌}
+use native.Mathlib.Omega.{arith}
+use lib.ListN.{length, length-append}
+use borrow.Author.Rules.{rules}
+use Rattle.setup_file.specs.Format.{entries_from}
+use Rattle.setup_writer.proofs.Entries.{most-small, next-number, count-at-most}
+use Rattle.setup_writer.proofs.entry_count.Given as goal
+
+abbrev pub invariant-loop-k : goal.invariant-loop-k
+invariant-loop-k l = (l.k ≤ l.most) × (l.count ≡ length (entries_from l.section l.settings 0 l.k))
+
+abbrev pub decreases-loop-k : goal.decreases-loop-k
+decreases-loop-k l = l.most - l.k
