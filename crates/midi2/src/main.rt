@@ -4,9 +4,9 @@
 
 mod out;
 
-use libc::{STDERR_FILENO, STDIN_FILENO};
 use midi2_text::cable::{Cable, Heard};
 use out::Out;
+use std::io::Read;
 
 // What is known between two reads.
 #[derive(Clone, Copy)]
@@ -29,51 +29,47 @@ fn new_listening() -> Listening {
 }
 
 // The cable after a byte or a flush, with its words printed.
-fn print(l: Listening, heard: Heard, buffer: &mut [u8; 4096]) -> Listening {
+fn print(rt: &impl Print, l: Listening, heard: Heard, buffer: &mut [u8; 4096]) -> Listening {
     let cable = heard.cable;
     let reply = heard.reply;
     let before = l.out;
-    let after = before.translation(buffer, reply);
+    let after = before.translation(rt, buffer, reply);
     let mut next = l;
     next.cable = cable;
     next.out = after;
     next
 }
 
-fn hear(l: Listening, byte: u8, buffer: &mut [u8; 4096]) -> Listening {
+fn hear(rt: &impl Print, l: Listening, byte: u8, buffer: &mut [u8; 4096]) -> Listening {
     let cable = l.cable;
-    print(l, cable.hear(byte), buffer)
+    print(rt, l, cable.hear(byte), buffer)
 }
 
-fn hear_all(l: Listening, bytes: &[u8], buffer: &mut [u8; 4096]) -> Listening {
+fn hear_all(rt: &impl Print, l: Listening, bytes: &[u8], buffer: &mut [u8; 4096]) -> Listening {
     let mut next = l;
-    let mut i: usize = 0;
-    while i < bytes.len() {
-        next = hear(next, bytes[i], buffer);
-        i += 1;
+    for byte in bytes {
+        next = hear(rt, next, *byte, buffer);
     }
     next
 }
 
-fn flush(l: Listening, channel: u8, buffer: &mut [u8; 4096]) -> Listening {
+fn flush(rt: &impl Print, l: Listening, channel: u8, buffer: &mut [u8; 4096]) -> Listening {
     let cable = l.cable;
-    print(l, cable.flush(channel), buffer)
+    print(rt, l, cable.flush(channel), buffer)
 }
 
-fn flush_all(l: Listening, buffer: &mut [u8; 4096]) -> Listening {
+fn flush_all(rt: &impl Print, l: Listening, buffer: &mut [u8; 4096]) -> Listening {
     let mut next = l;
-    let mut channel: u8 = 0;
-    while channel < 16 {
-        next = flush(next, channel, buffer);
-        channel += 1;
+    for channel in 0..16u8 {
+        next = flush(rt, next, channel, buffer);
     }
     next
 }
 
 // Writes the lines that wait; where that fails, nothing more is to be read.
-fn write_lines(l: Listening, buffer: &[u8; 4096]) -> Listening {
+fn write_lines(rt: &impl Print, l: Listening, buffer: &[u8; 4096]) -> Listening {
     let before = l.out;
-    let after = before.flush(buffer);
+    let after = before.flush(rt, buffer);
     let mut next = l;
     next.out = after;
     if !after.well {
@@ -83,44 +79,48 @@ fn write_lines(l: Listening, buffer: &[u8; 4096]) -> Listening {
 }
 
 // Reads once, and prints the words of what came.
-fn listen(l: Listening, buffer: &mut [u8; 4096]) -> Listening {
+fn listen(
+    rt: &impl Print,
+    input: &mut impl Read,
+    l: Listening,
+    buffer: &mut [u8; 4096],
+) -> Listening {
     let mut next = l;
-    let mut text = io::buffer();
-    let got = libc::read(STDIN_FILENO, &mut text);
-    if got < 0 {
-        next.going = false;
-        next.well = false;
-        return next;
+    let mut text = [0u8; 4096];
+    match input.read(&mut text) {
+        Ok(0) => next.going = false,
+        Ok(n) => return write_lines(rt, hear_all(rt, l, &text[..n], buffer), buffer),
+        Err(_) => {
+            next.going = false;
+            next.well = false;
+        }
     }
-    if got == 0 {
-        next.going = false;
-        return next;
-    }
-    let n = io::count(got, &text);
-    write_lines(hear_all(l, &text[..n], buffer), buffer)
+    next
 }
 
 // Prints the pending entries at the end of input; or says what failed.
-fn finish(l: Listening, buffer: &mut [u8; 4096]) {
+fn finish(rt: &(impl Print + Eprint), l: Listening, buffer: &mut [u8; 4096]) {
     if !l.well {
-        io::write_all(STDERR_FILENO, b"midi2: standard input cannot be read\n");
+        let _ = eprintln!(rt; "midi2: standard input cannot be read");
         return;
     }
-    let last = write_lines(flush_all(l, buffer), buffer);
+    let last = write_lines(rt, flush_all(rt, l, buffer), buffer);
     let out = last.out;
     if !out.well {
-        io::write_all(STDERR_FILENO, b"midi2: standard output cannot be written\n");
+        let _ = eprintln!(rt; "midi2: standard output cannot be written");
     }
 }
 
-// A proved loop has to end, and nothing says that the input does: it counts its reads down, from a number that no run uses up.
-fn main() {
-    let mut buffer = io::buffer();
+// A proved loop has to end, and nothing says that the input does: it counts its reads, to a number that no run uses up.
+fn main(rt: HostRuntime) {
+    let mut input = rt.stdin();
+    let mut buffer = [0u8; 4096];
     let mut l = new_listening();
-    let mut turns = u64::MAX;
-    while turns > 0 && l.going {
-        l = listen(l, &mut buffer);
-        turns -= 1;
+    for _ in 0..u64::MAX {
+        if !l.going {
+            break;
+        }
+        l = listen(&rt, &mut input, l, &mut buffer);
     }
-    finish(l, &mut buffer);
+    finish(&rt, l, &mut buffer);
 }

@@ -1,5 +1,4 @@
 // Lines on their way to standard output, through a buffer that is written when it is full and after each read.
-use libc::STDOUT_FILENO;
 use midi2_text::line::pair_line;
 use translate::Translation;
 
@@ -11,9 +10,9 @@ pub(crate) struct Out {
 }
 
 // Writes the first `n` bytes of the buffer.
-fn write_first(buffer: &[u8], n: usize) -> bool {
+fn write_first(rt: &impl Print, buffer: &[u8], n: usize) -> bool {
     if n <= buffer.len() {
-        return io::write_all(STDOUT_FILENO, &buffer[..n]);
+        return rt.write_all(&buffer[..n]).is_ok();
     }
     false
 }
@@ -27,7 +26,7 @@ impl Out {
     }
 
     // Writes what waits; after a write that failed, nothing more.
-    pub(crate) fn flush(self, buffer: &[u8; 4096]) -> Out {
+    pub(crate) fn flush(self, rt: &impl Print, buffer: &[u8; 4096]) -> Out {
         let waiting = self.waiting;
         if waiting == 0 {
             return self;
@@ -40,12 +39,12 @@ impl Out {
         }
         Out {
             waiting: 0,
-            well: write_first(buffer, waiting),
+            well: write_first(rt, buffer, waiting),
         }
     }
 
     // One byte more.
-    fn byte(self, buffer: &mut [u8; 4096], b: u8) -> Out {
+    fn byte(self, rt: &impl Print, buffer: &mut [u8; 4096], b: u8) -> Out {
         let at = self.waiting;
         if at < 4096 {
             buffer[at] = b;
@@ -54,7 +53,7 @@ impl Out {
                 well: self.well,
             };
         }
-        let flushed = self.flush(buffer);
+        let flushed = self.flush(rt, buffer);
         buffer[0] = b;
         Out {
             waiting: 1,
@@ -63,21 +62,26 @@ impl Out {
     }
 
     // The line of two words.
-    fn pair(self, buffer: &mut [u8; 4096], a: u32, b: u32) -> Out {
+    fn pair(self, rt: &impl Print, buffer: &mut [u8; 4096], a: u32, b: u32) -> Out {
         let line = pair_line(a, b);
         let mut out = self;
         let mut i: usize = 0;
         while i < 18 {
-            out = out.byte(buffer, line[i]);
+            out = out.byte(rt, buffer, line[i]);
             i += 1;
         }
         out
     }
 
     // The line of a translation that gives words. None of a cable is declined: its words are those of messages, and its translator is as they leave it.
-    pub(crate) fn translation(self, buffer: &mut [u8; 4096], reply: Translation) -> Out {
+    pub(crate) fn translation(
+        self,
+        rt: &impl Print,
+        buffer: &mut [u8; 4096],
+        reply: Translation,
+    ) -> Out {
         match reply {
-            Translation::Words(a, b) => self.pair(buffer, a, b),
+            Translation::Words(a, b) => self.pair(rt, buffer, a, b),
             Translation::Nothing => self,
             Translation::OutOfRange => self,
         }

@@ -3,10 +3,10 @@
 #![tactic(auto)]
 
 use byte_call::step_all;
-use libc::{STDERR_FILENO, STDIN_FILENO, STDOUT_FILENO};
-use mpe_pitch::unsigned_abs;
 use mpe_receiver::Offset;
 use receiving_end::end::End;
+use std::io;
+use std::io::Read;
 
 // What is known between two reads.
 #[derive(Clone, Copy)]
@@ -19,75 +19,60 @@ struct Listening {
 }
 
 // Reads once, and the end receives what came.
-fn listen(l: Listening) -> Listening {
+fn listen(input: &mut impl Read, l: Listening) -> Listening {
     let mut next = l;
-    let mut text = io::buffer();
-    let got = libc::read(STDIN_FILENO, &mut text);
-    if got < 0 {
-        next.going = false;
-        next.well = false;
-        return next;
+    let mut text = [0u8; 4096];
+    match input.read(&mut text) {
+        Ok(0) => next.going = false,
+        Ok(n) => next.end = step_all(l.end, &text[..n]),
+        Err(_) => {
+            next.going = false;
+            next.well = false;
+        }
     }
-    if got == 0 {
-        next.going = false;
-        return next;
-    }
-    let n = io::count(got, &text);
-    let before = l.end;
-    let after = step_all(before, &text[..n]);
-    next.end = after;
     next
 }
 
-// A proved loop has to end, and nothing says that the input does: it counts its reads down, from a number that no run uses up.
-fn listen_to_the_end() -> Listening {
+// A proved loop has to end, and nothing says that the input does: it counts its reads, to a number that no run uses up.
+fn listen_to_the_end(input: &mut impl Read) -> Listening {
     let mut l = Listening {
         end: End::new(),
         going: true,
         well: true,
     };
-    let mut turns = u64::MAX;
-    while turns > 0 && l.going {
-        l = listen(l);
-        turns -= 1;
+    for _ in 0..u64::MAX {
+        if !l.going {
+            break;
+        }
+        l = listen(input, l);
     }
     l
 }
 
-fn print_offset(z: i32) {
-    if z < 0 {
-        io::write_all(STDOUT_FILENO, b"-");
-    }
-    io::print_decimal(STDOUT_FILENO, unsigned_abs(z) as u64);
-}
-
-fn print_channel(end: End, channel: u8) {
-    io::print_decimal(STDOUT_FILENO, channel as u64);
-    io::write_all(STDOUT_FILENO, b" ");
-    let offset = end.pitch_offset(channel);
+fn print_offset(rt: &impl Print, offset: Offset) -> io::Result<()> {
     match offset {
-        Offset::Offset(z) => print_offset(z),
-        Offset::NoRole => {
-            io::write_all(STDOUT_FILENO, b"-");
-        }
-    }
-    io::write_all(STDOUT_FILENO, b"\n");
-}
-
-fn print_channels(end: End) {
-    let mut channel: u8 = 0;
-    while channel < 16 {
-        print_channel(end, channel);
-        channel += 1;
+        Offset::Offset(z) => print!(rt; "{z}"),
+        Offset::NoRole => print!(rt; "-"),
     }
 }
 
-fn main() {
-    let l = listen_to_the_end();
+fn print_channel(rt: &impl Print, end: End, channel: u8) -> io::Result<()> {
+    print!(rt; "{channel} ")?;
+    print_offset(rt, end.pitch_offset(channel))?;
+    println!(rt; "")
+}
+
+fn print_channels(rt: &impl Print, end: End) {
+    for channel in 0..16u8 {
+        let _ = print_channel(rt, end, channel);
+    }
+}
+
+fn main(rt: HostRuntime) {
+    let l = listen_to_the_end(&mut rt.stdin());
     if !l.well {
-        io::write_all(STDERR_FILENO, b"offsets: standard input cannot be read\n");
+        let _ = eprintln!(rt; "offsets: standard input cannot be read");
         return;
     }
-    let end = l.end;
-    print_channels(end);
+    print_channels(&rt, l.end);
 }

@@ -2,8 +2,9 @@
 // or `-` for a channel in no zone.
 #![tactic(auto)]
 
-use libc::{STDERR_FILENO, STDOUT_FILENO};
 use mpe_layout::{FoundRole, MadeLayout, MpeLayout, MpeRole, MpeZone};
+use std::env::FillError;
+use std::rt::Env;
 
 // What an argument says.
 #[derive(Clone, Copy)]
@@ -57,84 +58,85 @@ fn members(text: &[u8]) -> Given {
 }
 
 // Argument i; one that is missing or longer than a buffer says no member count.
-fn argument(i: usize) -> Given {
-    let mut text = io::buffer();
-    let n = os::arg(i, &mut text);
-    members(&text[..n])
-}
-
-fn print_zone(zone: MpeZone) -> bool {
-    match zone {
-        MpeZone::Lower => io::write_all(STDOUT_FILENO, b"Lower "),
-        MpeZone::Upper => io::write_all(STDOUT_FILENO, b"Upper "),
+fn argument(rt: &impl Env, i: usize) -> Given {
+    let mut text = [0u8; 4096];
+    match rt.arg(i, &mut text) {
+        Ok(n) => members(&text[..n]),
+        Err(_) => Given::Other,
     }
 }
 
-fn print_role(role: MpeRole) -> bool {
+// There is an argument i, whatever it says.
+fn is_given(rt: &impl Env, i: usize) -> bool {
+    let mut text = [0u8; 1];
+    !matches!(rt.arg(i, &mut text), Err(FillError::NotPresent))
+}
+
+fn print_zone(rt: &impl Print, zone: MpeZone) -> bool {
+    match zone {
+        MpeZone::Lower => print!(rt; "Lower ").is_ok(),
+        MpeZone::Upper => print!(rt; "Upper ").is_ok(),
+    }
+}
+
+fn print_role(rt: &impl Print, role: MpeRole) -> bool {
     match role {
-        MpeRole::NoZone => io::write_all(STDOUT_FILENO, b"-\n"),
-        MpeRole::Manager(zone) => print_zone(zone) && io::write_all(STDOUT_FILENO, b"manager\n"),
-        MpeRole::Member(zone) => print_zone(zone) && io::write_all(STDOUT_FILENO, b"member\n"),
+        MpeRole::NoZone => println!(rt; "-").is_ok(),
+        MpeRole::Manager(zone) => print_zone(rt, zone) && println!(rt; "manager").is_ok(),
+        MpeRole::Member(zone) => print_zone(rt, zone) && println!(rt; "member").is_ok(),
     }
 }
 
 // The line of a channel; false where it cannot be written. The layout is legal: it was made by `new`.
-fn print_channel(layout: MpeLayout, channel: u8) -> bool {
+fn print_channel(rt: &impl Print, layout: MpeLayout, channel: u8) -> bool {
     let found = layout.role(channel);
     let FoundRole::Role(role) = found else {
         return false;
     };
-    io::print_decimal(STDOUT_FILENO, channel as u64)
-        && io::write_all(STDOUT_FILENO, b" ")
-        && print_role(role)
+    print!(rt; "{channel} ").is_ok() && print_role(rt, role)
 }
 
-fn print_channels(layout: MpeLayout) -> bool {
-    let mut well = true;
-    let mut channel: u8 = 0;
-    while channel < 16 && well {
-        well = print_channel(layout, channel);
-        channel += 1;
+fn print_channels(rt: &impl Print, layout: MpeLayout) -> bool {
+    for channel in 0..16u8 {
+        if !print_channel(rt, layout, channel) {
+            return false;
+        }
     }
-    well
+    true
 }
 
 // The roles of the layout, or why there are none.
-fn print_roles(lower: u8, upper: u8) {
+fn print_roles(rt: &(impl Print + Eprint), lower: u8, upper: u8) {
     let made = MpeLayout::new(lower, upper);
     let MadeLayout::Made(layout) = made else {
-        io::write_all(
-            STDERR_FILENO,
-            b"roles: two zones have at most 14 members in all\n",
-        );
+        let _ = eprintln!(rt; "roles: two zones have at most 14 members in all");
         return;
     };
-    if !print_channels(layout) {
-        io::write_all(STDERR_FILENO, b"roles: standard output cannot be written\n");
+    if !print_channels(rt, layout) {
+        let _ = eprintln!(rt; "roles: standard output cannot be written");
     }
 }
 
-// The member counts that the arguments give, Lower's first; `count` counts the program's name too.
-fn layout_asked(count: usize) -> Asked {
-    if count != 3 {
+// The member counts that the two arguments give, Lower's first; argument 0 is the program's name.
+fn layout_asked(rt: &impl Env) -> Asked {
+    if !is_given(rt, 2) || is_given(rt, 3) {
         return Asked::Nothing;
     }
-    let Given::Members(lower) = argument(1) else {
+    let Given::Members(lower) = argument(rt, 1) else {
         return Asked::Nothing;
     };
-    let Given::Members(upper) = argument(2) else {
+    let Given::Members(upper) = argument(rt, 2) else {
         return Asked::Nothing;
     };
     Asked::Layout(lower, upper)
 }
 
-fn main() {
-    match layout_asked(os::arg_count()) {
-        Asked::Layout(lower, upper) => print_roles(lower, upper),
+fn main(rt: HostRuntime) {
+    match layout_asked(&rt) {
+        Asked::Layout(lower, upper) => print_roles(&rt, lower, upper),
         Asked::Nothing => {
-            io::write_all(
-                STDERR_FILENO,
-                b"roles: the arguments are the member counts of Lower and of Upper, 0 to 15 each\n",
+            let _ = eprintln!(rt;
+                "roles: the arguments are the member counts of Lower and of Upper, 0 to 15 each"
             );
         }
     }

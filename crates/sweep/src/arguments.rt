@@ -1,6 +1,9 @@
 // The program's arguments: a word, and numbers.
 ghost use Rattle.std.specs.Prelude.{◌+◌, ◌^◌, ◌<◌};
 
+use std::env::FillError;
+use std::rt::Env;
+
 // What an argument says.
 #[derive(Clone, Copy)]
 enum Given {
@@ -34,10 +37,12 @@ fn number(text: &[u8]) -> Given {
 }
 
 // Argument i; one that is missing or longer than a buffer says no number.
-fn argument(i: usize) -> Given {
-    let mut text = io::buffer();
-    let n = os::arg(i, &mut text);
-    number(&text[..n])
+fn argument(rt: &impl Env, i: usize) -> Given {
+    let mut text = [0u8; 4096];
+    match rt.arg(i, &mut text) {
+        Ok(n) => number(&text[..n]),
+        Err(_) => Given::Other,
+    }
 }
 
 // The text is the word.
@@ -56,10 +61,12 @@ fn is_word(text: &[u8], word: &[u8]) -> bool {
 }
 
 // Argument i is `--remainder`.
-fn is_remainder(i: usize) -> bool {
-    let mut text = io::buffer();
-    let n = os::arg(i, &mut text);
-    is_word(&text[..n], b"--remainder")
+fn is_remainder(rt: &impl Env, i: usize) -> bool {
+    let mut text = [0u8; 4096];
+    match rt.arg(i, &mut text) {
+        Ok(n) => is_word(&text[..n], b"--remainder"),
+        Err(_) => false,
+    }
 }
 
 // What an argument asks for, a pair of numbers together with the one after it.
@@ -81,13 +88,13 @@ fn pair(semitones: Given, cents: Given) -> Asked {
     Asked::Sweep(s, t)
 }
 
-pub(crate) fn asked_at(i: usize) -> Asked
+pub(crate) fn asked_at(rt: &impl Env, i: usize) -> Asked
     requires { i + 1 < 2 ^ 64 }
 {
-    if is_remainder(i) {
+    if is_remainder(rt, i) {
         return Asked::Remainder;
     }
-    pair(argument(i), argument(i + 1))
+    pair(argument(rt, i), argument(rt, i + 1))
 }
 
 // The argument behind a pair, of `count`.
@@ -101,12 +108,28 @@ pub(crate) fn after_pair(i: usize, count: usize) -> usize
     i + 2
 }
 
+// There is an argument i, whatever it says.
+fn is_given(rt: &impl Env, i: usize) -> bool {
+    let mut text = [0u8; 1];
+    !matches!(rt.arg(i, &mut text), Err(FillError::NotPresent))
+}
+
+// How many arguments there are, the program's name counted too.
+pub(crate) fn arg_count(rt: &impl Env) -> usize {
+    for i in 0..usize::MAX {
+        if !is_given(rt, i) {
+            return i;
+        }
+    }
+    usize::MAX
+}
+
 // Each argument asks for something, and the last for a sweep; `count` counts the program's name too.
-pub(crate) fn are_asked(count: usize) -> bool {
+pub(crate) fn are_asked(rt: &impl Env, count: usize) -> bool {
     let mut is_sweep = false;
     let mut i: usize = 1;
     while i < count {
-        match asked_at(i) {
+        match asked_at(rt, i) {
             Asked::Remainder => {
                 is_sweep = false;
                 i += 1;

@@ -4,43 +4,42 @@
 
 mod arguments;
 
-use arguments::{Asked, after_pair, are_asked, asked_at};
-use libc::{STDERR_FILENO, STDOUT_FILENO};
+use arguments::{Asked, after_pair, are_asked, arg_count, asked_at};
 use mpe_pitch::MpeSensitivity;
+use std::rt::Env;
 use sweep_text::sweep_line;
 
 // Writes the line of one bend value; false where it cannot be written.
-fn line(sensitivity: MpeSensitivity, value: u16, remainder: bool) -> bool {
+fn line(rt: &impl Print, sensitivity: MpeSensitivity, value: u16, remainder: bool) -> bool {
     let text = sweep_line(sensitivity, value, remainder);
     let from = text.from;
     let bytes = text.bytes;
-    io::write_all(STDOUT_FILENO, &bytes[from..])
+    rt.write_all(&bytes[from..]).is_ok()
 }
 
 // The lines of a sensitivity, while they can be written.
-fn lines(sensitivity: MpeSensitivity, remainder: bool) -> bool {
-    let mut well = true;
-    let mut value: u16 = 0;
-    while value < 0x4000 && well {
-        well = line(sensitivity, value, remainder);
-        value += 1;
+fn lines(rt: &impl Print, sensitivity: MpeSensitivity, remainder: bool) -> bool {
+    for value in 0..0x4000u16 {
+        if !line(rt, sensitivity, value, remainder) {
+            return false;
+        }
     }
-    well
+    true
 }
 
 // The sweeps that the arguments ask for, while they can be written; those after `--remainder` with the remainder.
-fn sweep_all(count: usize) -> bool {
+fn sweep_all(rt: &(impl Env + Print), count: usize) -> bool {
     let mut well = true;
     let mut remainder = false;
     let mut i: usize = 1;
     while i < count && well {
-        match asked_at(i) {
+        match asked_at(rt, i) {
             Asked::Remainder => {
                 remainder = true;
                 i += 1;
             }
             Asked::Sweep(semitones, cents) => {
-                well = lines(MpeSensitivity { semitones, cents }, remainder);
+                well = lines(rt, MpeSensitivity { semitones, cents }, remainder);
                 i = after_pair(i, count);
             }
             Asked::Nothing => {
@@ -51,16 +50,15 @@ fn sweep_all(count: usize) -> bool {
     well
 }
 
-fn main() {
-    let count = os::arg_count();
-    if !are_asked(count) {
-        io::write_all(
-            STDERR_FILENO,
-            b"sweep: the arguments are pairs of semitones and cents, each 0 to 127, and --remainder before those that are to have it\n",
+fn main(rt: HostRuntime) {
+    let count = arg_count(&rt);
+    if !are_asked(&rt, count) {
+        let _ = eprintln!(rt;
+            "sweep: the arguments are pairs of semitones and cents, each 0 to 127, and --remainder before those that are to have it"
         );
         return;
     }
-    if !sweep_all(count) {
-        io::write_all(STDERR_FILENO, b"sweep: standard output cannot be written\n");
+    if !sweep_all(&rt, count) {
+        let _ = eprintln!(rt; "sweep: standard output cannot be written");
     }
 }
