@@ -65,10 +65,8 @@ impl Out {
     fn pair(self, rt: &impl Print, buffer: &mut [u8; 4096], a: u32, b: u32) -> Out {
         let line = pair_line(a, b);
         let mut out = self;
-        let mut i: usize = 0;
-        while i < 18 {
-            out = out.byte(rt, buffer, line[i]);
-            i += 1;
+        for byte in line {
+            out = out.byte(rt, buffer, byte);
         }
         out
     }

@@ -18,20 +18,17 @@ fn number(text: &[u8]) -> Given {
         return Given::Other;
     }
     let mut n: u16 = 0;
-    let mut i: usize = 0;
-    while i < text.len() {
-        let b = text[i];
-        if b < b'0' {
+    for b in text {
+        if *b < b'0' {
             return Given::Other;
         }
-        if b'9' < b {
+        if b'9' < *b {
             return Given::Other;
         }
-        n = n * 10 + (b - b'0') as u16;
+        n = n * 10 + (*b - b'0') as u16;
         if 127 < n {
             return Given::Other;
         }
-        i += 1;
     }
     Given::Number(n as u8)
 }
@@ -47,17 +44,7 @@ fn argument(rt: &impl Env, i: usize) -> Given {
 
 // The text is the word.
 fn is_word(text: &[u8], word: &[u8]) -> bool {
-    if text.len() != word.len() {
-        return false;
-    }
-    let mut i: usize = 0;
-    while i < text.len() && i < word.len() {
-        if text[i] != word[i] {
-            return false;
-        }
-        i += 1;
-    }
-    true
+    text == word
 }
 
 // Argument i is `--remainder`.
