@@ -24,10 +24,8 @@ fn channel(reply: NoteReply) -> Line {
 // The counts of sixteen channels, then the same-note option.
 fn reading(allocator: MpeNoteAllocator) -> Line {
     let mut line = Line::new();
-    let mut c: u8 = 0;
-    while c < 16 {
+    for c in 0..16 {
         line = line.with_byte(allocator.active_notes(c));
-        c += 1;
     }
     line.with_flag(allocator.same_note())
 }

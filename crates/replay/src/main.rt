@@ -21,38 +21,41 @@ mod tokens;
 mod translation_items;
 mod word_items;
 
-use libc::{STDERR_FILENO, STDIN_FILENO};
 use run::Run;
+use std::io::{Read, Stdin};
 
 // The run where standard input cannot be read.
-fn unreadable(run: Run) -> Run {
-    io::write_all(STDERR_FILENO, b"replay: standard input cannot be read\n");
+fn unreadable(rt: &impl Eprint, run: Run) -> Run {
+    let _ = eprintln!(rt; "replay: standard input cannot be read");
     run.stopped()
 }
 
 // Reads once and answers the items that came whole. Keeping the loop out of it keeps the buffer out of the loop.
-fn read_some(run: Run, item: &mut [u8; 515], buffer: &mut [u8; 4096]) -> Run {
-    let mut text = io::buffer();
-    let got = libc::read(STDIN_FILENO, &mut text);
-    if got < 0 {
-        return unreadable(run);
+fn read_some(
+    rt: &impl Eprint,
+    mut input: Stdin,
+    run: Run,
+    item: &mut [u8; 515],
+    buffer: &mut [u8; 4096],
+) -> Run {
+    let mut text = [0u8; 4096];
+    match input.read(&mut text) {
+        Err(_) => unreadable(rt, run),
+        Ok(0) => run.ended(buffer),
+        Ok(n) => run.answer_all(&text[..n], item, buffer).while_written(),
     }
-    if got == 0 {
-        return run.ended(buffer);
-    }
-    let n = io::count(got, &text);
-    run.answer_all(&text[..n], item, buffer).while_written()
 }
 
-// A proved loop has to end, and nothing says that the input does: the loop counts its reads down, from a number that no run uses up.
-fn main() {
+// A proved loop has to end, and nothing says that the input does: the loop counts its reads, up to a number that no run reaches.
+fn main(rt: HostRuntime) {
     let mut item = [0u8; 515];
-    let mut buffer = io::buffer();
-    let mut run = Run::new();
-    let mut turns = u64::MAX;
-    while turns > 0 && run.going {
-        run = read_some(run, &mut item, &mut buffer);
-        turns -= 1;
+    let mut buffer = [0u8; 4096];
+    let mut run = Run::new(rt.stdout());
+    for _ in 0..u64::MAX {
+        if !run.going {
+            break;
+        }
+        run = read_some(&rt, rt.stdin(), run, &mut item, &mut buffer);
     }
-    run.finished(&buffer);
+    run.finished(&rt, &buffer);
 }

@@ -1,26 +1,48 @@
 // Text on its way to standard output, through a buffer that is written when it is full.
+ghost use Rattle.std.specs.Fmt.{decimal};
+ghost use Rattle.std.specs.Prelude.{◌≡◌, ◌≤◌, drop};
+
 use crate::line::{Line, MINUS, NUMBER, REFUSAL};
-use libc::STDOUT_FILENO;
+use std::io::Stdout;
 use zone_sender::Written;
 
-// How many bytes wait in the buffer, and whether every write so far succeeded.
+// Where the text goes, how many bytes wait in the buffer, and whether every write so far succeeded.
 #[derive(Clone, Copy)]
 pub(crate) struct Out {
+    to: Stdout,
     pub(crate) waiting: usize,
     pub(crate) well: bool,
 }
 
 // Writes the first `n` bytes of the buffer.
-fn write_first(buffer: &[u8], n: usize) -> bool {
+fn write_first(to: Stdout, buffer: &[u8], n: usize) -> bool {
     if n <= buffer.len() {
-        return io::write_all(STDOUT_FILENO, &buffer[..n]);
+        return to.write_all(&buffer[..n]).is_ok();
     }
     false
 }
 
+// Puts n's decimal digits at the end of `digits`, and returns where they begin.
+fn digits_from(n: u64, digits: &mut [u8; 20]) -> usize
+    ensures in_bounds { result ≤ 20 }
+    ensures value { drop result digits.new ≡ decimal n }
+{
+    let mut at = 20;
+    let mut rest = n;
+    while 10 <= rest {
+        at -= 1;
+        digits[at] = b'0' + (rest % 10) as u8;
+        rest /= 10;
+    }
+    at -= 1;
+    digits[at] = b'0' + rest as u8;
+    at
+}
+
 impl Out {
-    pub(crate) fn new() -> Out {
+    pub(crate) fn new(to: Stdout) -> Out {
         Out {
+            to,
             waiting: 0,
             well: true,
         }
@@ -28,14 +50,16 @@ impl Out {
 
     // Writes what waits.
     pub(crate) fn flush(self, buffer: &[u8; 4096]) -> Out {
-        let is_written = write_first(buffer, self.waiting);
+        let is_written = write_first(self.to, buffer, self.waiting);
         if is_written {
             return Out {
+                to: self.to,
                 waiting: 0,
                 well: self.well,
             };
         }
         Out {
+            to: self.to,
             waiting: 0,
             well: false,
         }
@@ -47,6 +71,7 @@ impl Out {
         if at < 4096 {
             buffer[at] = b;
             return Out {
+                to: self.to,
                 waiting: at + 1,
                 well: self.well,
             };
@@ -54,6 +79,7 @@ impl Out {
         let flushed = self.flush(buffer);
         buffer[0] = b;
         Out {
+            to: self.to,
             waiting: 1,
             well: flushed.well,
         }
@@ -62,10 +88,8 @@ impl Out {
     // The bytes of `text`.
     pub(crate) fn text(self, buffer: &mut [u8; 4096], text: &[u8]) -> Out {
         let mut out = self;
-        let mut i = 0;
-        while i < text.len() {
-            out = out.byte(buffer, text[i]);
-            i += 1;
+        for b in text {
+            out = out.byte(buffer, *b);
         }
         out
     }
@@ -73,8 +97,8 @@ impl Out {
     // A number in decimal.
     fn number(self, buffer: &mut [u8; 4096], n: u64) -> Out {
         let mut digits = [0u8; 20];
-        let k = io::decimal(n, &mut digits);
-        self.text(buffer, &digits[..k])
+        let from = digits_from(n, &mut digits);
+        self.text(buffer, &digits[from..])
     }
 
     // A mark and a number.
@@ -103,8 +127,7 @@ impl Out {
             return self.text(buffer, b"ok");
         }
         let mut out = self;
-        let mut i = 0;
-        while i < 20 {
+        for i in 0..20 {
             if count <= i {
                 return out;
             }
@@ -112,7 +135,6 @@ impl Out {
                 out = out.byte(buffer, b' ');
             }
             out = out.cell(buffer, line.marks[i], line.values[i]);
-            i += 1;
         }
         out
     }
@@ -137,10 +159,8 @@ impl Out {
     // A colon and the words of a buffer, a space before each.
     pub(crate) fn words(self, buffer: &mut [u8; 4096], words: &[u32]) -> Out {
         let mut out = self.text(buffer, b" :");
-        let mut i = 0;
-        while i < words.len() {
-            out = out.word(buffer, words[i]);
-            i += 1;
+        for word in words {
+            out = out.word(buffer, *word);
         }
         out
     }
@@ -153,10 +173,8 @@ impl Out {
     // A colon and the bytes of a buffer, a space before each.
     pub(crate) fn bytes(self, buffer: &mut [u8; 4096], bytes: &[u8]) -> Out {
         let mut out = self.text(buffer, b" :");
-        let mut i = 0;
-        while i < bytes.len() {
-            out = out.small(buffer, bytes[i]);
-            i += 1;
+        for b in bytes {
+            out = out.small(buffer, *b);
         }
         out
     }

@@ -51,13 +51,11 @@ fn zones(item: &[u8; 515]) -> Settings {
 // S, a settings record.
 pub(crate) fn settings(item: &[u8; 515]) -> Settings {
     let mut settings = zones(item);
-    let mut k = 0;
-    while k < 16 {
+    for k in 0..16 {
         let at = 13 + 4 * k;
         settings.pitch_bend[k] = arguments::two(item[at], item[at + 1]);
         settings.pressure[k] = item[at + 2];
         settings.brightness[k] = item[at + 3];
-        k += 1;
     }
     settings
 }

@@ -4,7 +4,7 @@ use crate::item::{Begun, Found};
 use crate::out::Out;
 use crate::states::States;
 use crate::{restatement_items, sender_items, setup_items};
-use libc::STDERR_FILENO;
+use std::io::Stdout;
 
 // The run between two reads: the states, the item that is being read, the output, and whether more is to be read.
 #[derive(Clone, Copy)]
@@ -35,11 +35,11 @@ fn written_answer(out: Out, item: &[u8; 515], buffer: &mut [u8; 4096]) -> Out {
 }
 
 impl Run {
-    pub(crate) fn new() -> Run {
+    pub(crate) fn new(to: Stdout) -> Run {
         Run {
             states: States::new(),
             begun: Begun::new(),
-            out: Out::new(),
+            out: Out::new(to),
             going: true,
         }
     }
@@ -61,14 +61,11 @@ impl Run {
     }
 
     // Writes what is left, and says where not all could be written.
-    pub(crate) fn finished(self, buffer: &[u8; 4096]) {
+    pub(crate) fn finished(self, rt: &impl Eprint, buffer: &[u8; 4096]) {
         let out = self.out;
         let last = out.flush(buffer);
         if !last.well {
-            io::write_all(
-                STDERR_FILENO,
-                b"replay: standard output cannot be written\n",
-            );
+            let _ = eprintln!(rt; "replay: standard output cannot be written");
         }
     }
 

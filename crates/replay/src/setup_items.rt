@@ -28,8 +28,7 @@ fn channel(out: Out, bend: u16, pressure: u8, brightness: u8, buffer: &mut [u8; 
 // Writes S, a settings record.
 fn record(before: Out, settings: Settings, buffer: &mut [u8; 4096]) -> Out {
     let mut out = before.line(buffer, zones(settings));
-    let mut k = 0;
-    while k < 16 {
+    for k in 0..16 {
         out = channel(
             out,
             settings.pitch_bend[k],
@@ -37,7 +36,6 @@ fn record(before: Out, settings: Settings, buffer: &mut [u8; 4096]) -> Out {
             settings.brightness[k],
             buffer,
         );
-        k += 1;
     }
     out
 }
