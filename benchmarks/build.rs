@@ -1,4 +1,4 @@
-//! Links the proved libraries, which `rt staticlib` writes.
+//! Links the proved libraries, which `run` has the toolchain write and puts into one folder.
 
 use std::env;
 use std::path::PathBuf;

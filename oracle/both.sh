@@ -5,13 +5,13 @@
 #
 # Environment:
 #   ZMIDI_SRC  the folder of the upstream sources (see README.md)
-#   RT         the toolchain command that builds `replay`, by default rt
+#   RT         the toolchain command, by default rt; `rt run` in its folder builds `replay`
 #   REPLAY     an executable to run in place of `replay`; then nothing is built by the toolchain
 
 here=$(cd "$(dirname "${BASH_SOURCE[0]}")" && pwd)
 root=$(dirname "$here")
 bin=$here/target/release
-replay=${REPLAY:-$root/target/bin/replay}
+replay=${REPLAY:-$root/crates/replay/out/replay}
 
 # Says how the script is called, by its own first lines.
 usage() {
@@ -34,7 +34,7 @@ build() {
   cargo build --release --offline --quiet --manifest-path "$here/Cargo.toml" \
     --target-dir "$here/target" || exit 2
   if [[ -z ${REPLAY:-} ]]; then
-    (cd "$root" && "${RT:-rt}" check replay) >"$work/build" 2>&1 || {
+    (cd "$root/crates/replay" && "${RT:-rt}" run </dev/null) >"$work/build" 2>&1 || {
       cat "$work/build" >&2
       exit 2
     }
