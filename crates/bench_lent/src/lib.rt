@@ -1,4 +1,4 @@
-// The calls that a board's firmware links: a new end, and a byte on a lent end. A reply is a number (docs/BENCHMARKS.md).
+// A new end, and a byte on a lent end. A reply is a number (docs/BENCHMARKS.md). `bench_lent_c` exports the two calls for a board's firmware.
 #![tactic(auto)]
 
 ghost use Rattle.std.specs.Prelude.{◌≡◌, ◌<◌, ◌^◌};
@@ -55,16 +55,14 @@ pub fn reply_code(reply: Reply) -> u64
 }
 
 // The end becomes a new one.
-#[unsafe(no_mangle)]
-pub extern "C" fn gurfemau_new(end: &mut End)
+pub fn gurfemau_new(end: &mut End)
     ensures { end.new ≡ new_end }
 {
     *end = End::new();
 }
 
 // The byte call on a lent end.
-#[unsafe(no_mangle)]
-pub extern "C" fn gurfemau_byte(end: &mut End, b: u8) -> u64
+pub fn gurfemau_byte(end: &mut End, b: u8) -> u64
     ensures { (result ≡ reply_code (step_reply end.old b)) × (end.new ≡ step_end end.old b) }
 {
     reply_code(byte(end, b))
