@@ -1,5 +1,5 @@
-//! The proved library, as `crates/bench_lent`, `bench_value`, `bench_translate` and `bench_calls`
-//! export it. Its functions ask nothing of the caller but what their types say.
+//! The proved library, as `crates/bench_lent_c`, `bench_value`, `bench_translate` and
+//! `bench_calls` export it. Its functions ask nothing of the caller but what their types say.
 
 /// Room for an end; `size` says how much of it one takes.
 #[repr(C, align(8))]
