@@ -1,6 +1,6 @@
 -- Runs of calls by value, and the sums of their answers, kept to 64 bits.
 use Rattle.std.specs.Prelude.{ℕ, ◌+◌, ◌%◌, ◌^◌, false, List, [], ◌∷◌, ℤ, nat_lt, unsigned_abs}
-use Rattle.ump.specs.Choice.{if◌then◌else◌}
+use Rattle.ump.specs.Choice.{when◌then◌else◌}
 use Rattle.ump.specs.Outcome.{Outcome, given, declined}
 use Rattle.ump.specs.Packet.{packet_value}
 use Rattle.mpe_layout.specs.declared.MpeLayout.{MpeLayout}
@@ -41,7 +41,7 @@ ended n c = record { allocator = without_note n.allocator (packet_value c); sum 
 
 -- a byte below 80 starts a note, any other ends one
 unfoldable pub noted : Noted → ℕ → Noted
-noted n b = if nat_lt b 0x80 then begun n (allocation_of n.allocator fifteen Lower b) else ended n b
+noted n b = when nat_lt b 0x80 then begun n (allocation_of n.allocator fifteen Lower b) else ended n b
 
 unfoldable pub noted_all : Noted → List ℕ → Noted
 noted_all n [] = n

@@ -1,6 +1,6 @@
 -- Replies as numbers, for a caller that takes no enum. Different replies have different numbers.
 use Rattle.std.specs.Prelude.{ℕ, ◌+◌, ◌*◌, Bool}
-use Rattle.ump.specs.Choice.{if◌then◌else◌}
+use Rattle.ump.specs.Choice.{when◌then◌else◌}
 use Rattle.mpe_layout.specs.declared.MpeZone.{MpeZone}
 use Rattle.mpe_layout.specs.declared.MpeZone.TheVariants.{Lower, Upper}
 use Rattle.mpe_event.specs.declared.MpeEvent.{MpeEvent}
@@ -14,7 +14,7 @@ zone_code Upper = 1
 
 -- a zone's manager or members
 abbrev pub part_code : MpeZone → Bool → ℕ
-part_code zone manager = if manager then 2 + zone_code zone else zone_code zone
+part_code zone manager = when manager then 2 + zone_code zone else zone_code zone
 
 abbrev pub event_code : MpeEvent → ℕ
 event_code NoZone = 0

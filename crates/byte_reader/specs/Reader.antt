@@ -1,6 +1,6 @@
 -- The byte reader (MIDI 1.0, "Running Status" and Table I; document 01, "A byte arrives"; document 02, 2026-06).
 use Rattle.std.specs.Prelude.{ℕ, ◌/◌, ◌%◌, ◌<◌, ◌≤◌, true, ◌≡◌, List, [], ◌∷◌, ◌⊎◌, ltb, eqb}
-use Rattle.ump.specs.Choice.{if◌then◌else◌}
+use Rattle.ump.specs.Choice.{when◌then◌else◌}
 use Rattle.ump.specs.Field.{field}
 use Rattle.ump.specs.Word.{word_form, word_of}
 use Rattle.byte_reader.specs.declared.ByteClass.{ByteClass}
@@ -23,11 +23,11 @@ reading r x = record { reader = r; read = x }
 -- the classes of bytes, with F4 and F5 among F0 to F7 (document 02, 2026-06)
 unfoldable pub class_of_byte : ℕ → ByteClass
 class_of_byte b =
-    if ltb b 0x80 then class.Data else
-    if ltb b 0xF0 then class.Status else
-    if ltb b 0xF8 then class.Common else
-    if eqb b 0xF9 then class.Undefined else
-    if eqb b 0xFD then class.Undefined else
+    when ltb b 0x80 then class.Data else
+    when ltb b 0xF0 then class.Status else
+    when ltb b 0xF8 then class.Common else
+    when eqb b 0xF9 then class.Undefined else
+    when eqb b 0xFD then class.Undefined else
     class.RealTime
 
 -- the word of a status byte and its data bytes: opcode and channel are the status byte's halves, and the group is 0
@@ -37,15 +37,15 @@ message_word status first second = word_of 0 (status / 16) (status % 16) first s
 -- a data byte of a message with two: it completes the message, or begins it; running status stays
 abbrev pub second_data : ℕ → ℕ → ℕ → ReadStep
 second_data status first b =
-    if ltb first 0x80 then reading (reader_at status 0x80) (Message (message_word status first b)) else
+    when ltb first 0x80 then reading (reader_at status 0x80) (Message (message_word status first b)) else
     reading (reader_at status b) Quiet
 
 -- opcodes C and D take one data byte, the others two; without a running status a data byte is dropped
 unfoldable pub data_step : ℕ → ℕ → ℕ → ReadStep
 data_step status first b =
-    if ltb status 0x80 then reading (reader_at status first) Dropped else
-    if ltb status 0xC0 then second_data status first b else
-    if ltb status 0xE0 then reading (reader_at status first) (Message (message_word status b 0)) else
+    when ltb status 0x80 then reading (reader_at status first) Dropped else
+    when ltb status 0xC0 then second_data status first b else
+    when ltb status 0xE0 then reading (reader_at status first) (Message (message_word status b 0)) else
     second_data status first b
 
 abbrev pub class_step : Reader → ByteClass → ℕ → ReadStep

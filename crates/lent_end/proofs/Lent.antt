@@ -10,7 +10,7 @@ use lib.Dec.{eqb}
 use lib.ListN.{set}
 use lib.Seq.{set-get_or}
 use borrow.Author.Tests.{eqb-true, eqb-false, ne_eqb}
-use Rattle.ump.specs.Choice.{if◌then◌else◌}
+use Rattle.ump.specs.Choice.{when◌then◌else◌}
 use Rattle.ump.specs.Word.{opcode_of, channel_of, first_of, second_of, word_form, bend_of}
 use Rattle.ump.proofs.Cases.{by-test, of-both}
 use Rattle.parameters.specs.declared.ParameterUpdate.{ParameterUpdate}
@@ -45,21 +45,21 @@ use Rattle.lent_end.specs.Lent.{reader_only, word_taken, read_taken, taken_of, e
 use Rattle.lent_end.proofs.Words.{Formed, Fine, read-fine}
 
 -- a choice by a test that holds, and by one that does not
-taken : {X : Type 0} (c : Bool) (x y : X) → T c → (if c then x else y) ≡ x
+taken : {X : Type 0} (c : Bool) (x y : X) → T c → (when c then x else y) ≡ x
 taken true x y t = refl
 taken false x y t = absurd t
 
-untaken : {X : Type 0} (c : Bool) (x y : X) → T (not c) → (if c then x else y) ≡ y
+untaken : {X : Type 0} (c : Bool) (x y : X) → T (not c) → (when c then x else y) ≡ y
 untaken true x y t = absurd t
 untaken false x y t = refl
 
 -- what a taken byte makes of an end that has the reader after it
 abbrev pub taken_end : End → Taken → End
-taken_end e t = if t.message then message_end e t else e
+taken_end e t = when t.message then message_end e t else e
 
 -- and its reply
 abbrev pub taken_reply : End → Taken → Reply
-taken_reply e t = if t.message then message_reply e t else t.reply
+taken_reply e t = when t.message then message_reply e t else t.reply
 
 abbrev pub taken_step : End → Taken → Stepped
 taken_step e t = stepped (taken_end e t) (taken_reply e t)
@@ -120,7 +120,7 @@ record Unsettled (event : MaybeEvent) (a : ℕ) : Type 0 where
   not-126 : eqb a 126 ≡ false
   not-127 : eqb a 127 ≡ false
 
-none_of : (x y z : Bool) → (if x then true else if y then true else z) ≡ false → (x ≡ false) × ((y ≡ false) × (z ≡ false))
+none_of : (x y z : Bool) → (when x then true else when y then true else z) ≡ false → (x ≡ false) × ((y ≡ false) × (z ≡ false))
 none_of true y z f = absurd (true≢false f)
 none_of false true z f = absurd (true≢false f)
 none_of false false z f = (refl, (refl, f))
@@ -219,7 +219,7 @@ module _ (e : End) (n : Reader) (w : ℕ) (formed : word_form w ≡ true) where
       control-step : stepped (control_end e (message_taken n w true)) (control_reply e (message_taken n w true)) ≡ message_step e w
       control-step =
           ap control_in (channel-mod w)
-          ∙ by_value (λ b. stepped (if b then settled_end after w event else after) (if b then settled_reply e w event else event_reply r w) ≡ message_step e w)
+          ∙ by_value (λ b. stepped (when b then settled_end after w event else after) (when b then settled_reply e w event else event_reply r w) ≡ message_step e w)
           (settles_with event (first_of w))
           (λ b. settled-step)
           (λ b. unsettled-step (unsettled event (first_of w) b))
@@ -242,7 +242,7 @@ module _ (e : End) (n : Reader) (w : ℕ) (formed : word_form w ≡ true) where
 
     change-step : taken_step e (message_taken n w true) ≡ message_step e w
     change-step =
-        by_value (λ b. stepped (if b then brightness_end e (message_taken n w true) else control_end e (message_taken n w true)) (if b then event_reply r w else control_reply e (message_taken n w true)) ≡ message_step e w)
+        by_value (λ b. stepped (when b then brightness_end e (message_taken n w true) else control_end e (message_taken n w true)) (when b then event_reply r w else control_reply e (message_taken n w true)) ≡ message_step e w)
         (eqb (first_of w) 74)
         (λ b. brightness-step (eqb-true (first_of w) 74 b))
         (λ b. control-step b)
@@ -251,8 +251,8 @@ module _ (e : End) (n : Reader) (w : ℕ) (formed : word_form w ≡ true) where
     -- a bend or a pressure in place, by the channel's index
     abbrev stored_in : ℕ → End
     stored_in j =
-        if eqb (opcode_of w) 0xE then with_receiver e (with_bends r (set r.pitch_bend j (bend_of w))) else
-        if eqb (opcode_of w) 0xD then with_receiver e (with_pressures r (set r.pressure j (first_of w))) else e
+        when eqb (opcode_of w) 0xE then with_receiver e (with_bends r (set r.pitch_bend j (bend_of w))) else
+        when eqb (opcode_of w) 0xD then with_receiver e (with_pressures r (set r.pressure j (first_of w))) else e
 
     stored-put : stored_in k ≡ with_receiver e put
     unfolding stored
@@ -277,7 +277,7 @@ module _ (e : End) (r : Reader) (w : ℕ) where
 
   word-step : Formed w → taken_step e (word_taken r w) ≡ message_step e w
   word-step f =
-      by_value (λ x. taken_step e (if x then reader_only r (Message w Ignored) else message_taken r w (eqb (opcode_of w) 0xB)) ≡ message_step e w)
+      by_value (λ x. taken_step e (when x then reader_only r (Message w Ignored) else message_taken r w (eqb (opcode_of w) 0xB)) ≡ message_step e w)
       (eqb (opcode_of w) 0xF)
       (λ x. ignored-step e w (f ∙ rw x))
       (λ x. message-step (f ∙ rw x))

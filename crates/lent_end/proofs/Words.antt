@@ -7,7 +7,7 @@ use mathlib.Core.Logic.{◌⊎◌, inl, inr, ⊎_elim}
 use native.Mathlib.Omega.{arith}
 use lib.Dec.{ltb, eqb}
 use borrow.Author.Tests.{ltb-true, ltb-false, eqb-true, eqb-false, ne_eqb}
-use Rattle.ump.specs.Choice.{if◌then◌else◌}
+use Rattle.ump.specs.Choice.{when◌then◌else◌}
 use Rattle.ump.specs.Word.{opcode_of, one_data, form_of, word_form}
 use Rattle.ump.proofs.Cases.{by-test, of-both}
 use Rattle.ump.proofs.Words.{PartsFit, type-of-word, opcode-of-word, bit-15-of-word, bit-7-of-word, form-of-word}
@@ -20,7 +20,7 @@ use Rattle.byte_reader.specs.Reader.{class_of_byte, message_word, second_data, d
 
 -- a word of the form of a message, or with opcode F
 abbrev pub Formed : ℕ → Type 0
-Formed w = word_form w ≡ (if eqb (opcode_of w) 0xF then false else true)
+Formed w = word_form w ≡ (when eqb (opcode_of w) 0xF then false else true)
 
 -- what holds of a reading: its word is formed
 abbrev pub Fine : Read → Type 0

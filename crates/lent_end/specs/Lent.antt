@@ -1,6 +1,6 @@
 -- A lent end taken apart: what the by-value functions that the lent byte call makes answer. Private functions cite these; the byte call itself is held to End.antt.
 use Rattle.std.specs.Prelude.{ℕ, ◌%◌, Bool, true, false, eqb, set}
-use Rattle.ump.specs.Choice.{if◌then◌else◌}
+use Rattle.ump.specs.Choice.{when◌then◌else◌}
 use Rattle.ump.specs.Word.{opcode_of, channel_of, first_of, second_of, bend_of}
 use Rattle.parameters.specs.declared.ParameterState.{ParameterState}
 use Rattle.parameters.specs.declared.MaybeEvent.{MaybeEvent}
@@ -46,7 +46,7 @@ reader_only r reply =
 -- a word; the one opcode of no message that a reader can make is F, from a running status that it never gets by bytes
 abbrev pub word_taken : Reader → ℕ → Taken
 word_taken r w =
-    if eqb (opcode_of w) 0xF then reader_only r (Message w Ignored) else
+    when eqb (opcode_of w) 0xF then reader_only r (Message w Ignored) else
     record {
       reader = r;
       reply = Quiet;
@@ -84,7 +84,7 @@ event_reply r w = Message w (event_by_role r (role_held r.layout (channel_of w))
 
 -- a control change other than a brightness may change the receiver where the parameters gave an event for it, and where it is 121 (RP-015), 126 or 127 (M1-100 2.2.4.3)
 abbrev pub settles_with : MaybeEvent → ℕ → Bool
-settles_with NoEvent a = if eqb a 121 then true else if eqb a 126 then true else eqb a 127
+settles_with NoEvent a = when eqb a 121 then true else when eqb a 126 then true else eqb a 127
 settles_with (Event e) a = true
 
 -- it reaches the parameters of its channel first (document 01, "The message reaches its channel's parameters")
@@ -104,10 +104,10 @@ settled_of r w event =
 -- the end after each lent call, and the reply where it is found there; a channel is taken modulo 16
 abbrev pub stored_end : End → Taken → End
 stored_end e t =
-    if t.bends then
+    when t.bends then
     with_receiver e (with_bends e.receiver (set e.receiver.pitch_bend (t.channel % 16) (bend_of t.word)))
     else
-    if t.presses then
+    when t.presses then
     with_receiver e (with_pressures e.receiver (set e.receiver.pressure (t.channel % 16) (first_of t.word)))
     else e
 
@@ -123,10 +123,10 @@ settled_reply e w event = (settled_of e.receiver w event).reply
 
 -- where it may change
 abbrev pub updated_end : End → ℕ → Controlled → End
-updated_end e w c = if c.settles then settled_end e w c.event else e
+updated_end e w c = when c.settles then settled_end e w c.event else e
 
 abbrev pub updated_reply : End → ℕ → Controlled → Reply
-updated_reply e w c = if c.settles then settled_reply e w c.event else event_reply e.receiver w
+updated_reply e w c = when c.settles then settled_reply e w c.event else event_reply e.receiver w
 
 abbrev pub parameter_end : End → ℕ → ℕ → Controlled → End
 parameter_end e w channel c = updated_end (with_parameter e (channel % 16) c.state) w c
@@ -143,14 +143,14 @@ control_reply e t = updated_reply e t.word (controlled_at e t.word t.channel)
 
 -- any control change
 abbrev pub changed_end : End → Taken → End
-changed_end e t = if t.brightens then brightness_end e t else control_end e t
+changed_end e t = when t.brightens then brightness_end e t else control_end e t
 
 abbrev pub changed_reply : End → Taken → Reply
-changed_reply e t = if t.brightens then event_reply e.receiver t.word else control_reply e t
+changed_reply e t = when t.brightens then event_reply e.receiver t.word else control_reply e t
 
 -- a message of a channel
 abbrev pub message_end : End → Taken → End
-message_end e t = if t.control then changed_end e t else stored_end e t
+message_end e t = when t.control then changed_end e t else stored_end e t
 
 abbrev pub message_reply : End → Taken → Reply
-message_reply e t = if t.control then changed_reply e t else event_reply e.receiver t.word
+message_reply e t = when t.control then changed_reply e t else event_reply e.receiver t.word

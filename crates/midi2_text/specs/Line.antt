@@ -1,10 +1,10 @@
 -- The text of two words: eight hexadecimal digits each, upper case, highest first (document 01's hexadecimal).
 use Rattle.std.specs.Prelude.{ℕ, ◌+◌, ◌-◌, ◌/◌, ◌%◌, ◌^◌, List, [], ◌∷◌, ◌++◌, map, ltb}
-use Rattle.ump.specs.Choice.{if◌then◌else◌}
+use Rattle.ump.specs.Choice.{when◌then◌else◌}
 
 -- the character of a value below 16: '0' to '9', then 'A' to 'F'
 unfoldable pub hex_digit : ℕ → ℕ
-hex_digit n = if ltb n 10 then 0x30 + n else 0x37 + n
+hex_digit n = when ltb n 10 then 0x30 + n else 0x37 + n
 
 -- digit i of a word's eight, 0 the highest
 abbrev pub digit_at : ℕ → ℕ → ℕ

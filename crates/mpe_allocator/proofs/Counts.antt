@@ -2,7 +2,7 @@
 -- Assumes nothing.
 use Rattle.std.proofs.Common.{◌≡◌, ℕ, zero, suc, ◌+◌, ◌-◌, ◌<◌, Bool, true, false, ◌||◌, eqb, leb, List, [], ◌∷◌, length, get_or, set, refl, ◌∙◌, le_of_suc-le-suc, not-suc-le-zero, arith, length-set, get_or-set_same, leb-false}
 use borrow.Author.Tests.{eqb-false}
-use Rattle.ump.specs.Choice.{if◌then◌else◌}
+use Rattle.ump.specs.Choice.{when◌then◌else◌}
 use Rattle.ump.specs.Packet.{packet_value}
 use Rattle.mpe_layout.specs.Layout.{legal, members_of, lowest_of}
 use Rattle.mpe_layout.specs.declared.MpeZone.{MpeZone}
@@ -80,7 +80,7 @@ module _ (active : List ℕ) (c v : ℕ) (t : Tally) (b : c < 16) (k : Kept acti
 
 -- what a note gets, by whether the layout is legal and whether the zone is empty
 abbrev by-zone : MpeNoteAllocator → ℕ → ℕ → Bool → Bool → Allocation
-by-zone a mark c x y = if x then (if y then answered a NoMembers else placed_on a mark c) else answered a OutOfRange
+by-zone a mark c x y = when x then (when y then answered a NoMembers else placed_on a mark c) else answered a OutOfRange
 
 note-by : (a : MpeNoteAllocator) (t : Tally) (mark c : ℕ) (x y : Bool) → (x ≡ true → y ≡ false → c < 16) → Kept a.active t
     → Kept (by-zone a mark c x y).allocator.active (noted t (got (by-zone a mark c x y).reply) (by-zone a mark c x y).allocator.active)
@@ -99,7 +99,7 @@ note-kept a t l zone note k =
     k
 
 off-by : (a : MpeNoteAllocator) (t : Tally) (c : ℕ) (x : Bool) → eqb (held_on a c) 0 ≡ x → c < 16 → Kept a.active t
-    → Kept (if x then a else one_fewer a c).active (record { ons = t.ons; offs = t.offs + (if x then 0 else 1); reached = t.reached })
+    → Kept (when x then a else one_fewer a c).active (record { ons = t.ons; offs = t.offs + (when x then 0 else 1); reached = t.reached })
 off-by a t c true e b k = record { sixteen = k.sixteen; sums = λ h. omega (arith, k.sums h) }
 off-by a t c false e b k =
     let n : held_on a c ≡ 0 → ⊥ = eqb-false (held_on a c) 0 e in

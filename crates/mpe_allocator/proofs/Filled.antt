@@ -2,7 +2,7 @@
 -- Assumes nothing.
 use Rattle.std.proofs.Common.{◌≡◌, ℕ, zero, suc, ◌+◌, ◌-◌, ◌<◌, ◌≤◌, Bool, true, false, eqb, ltb, List, [], ◌∷◌, length, get_or, set, replicate, sym, refl, ap, ◌∙◌, subst, arith, get_or-set_other, get_or-set_same, ltb-false, ltb-true, ne_eqb, le-leb}
 use lib.ListN.{get_or-replicate}
-use Rattle.ump.specs.Choice.{if◌then◌else◌}
+use Rattle.ump.specs.Choice.{when◌then◌else◌}
 use Rattle.ump.proofs.Cases.{by-test}
 use Rattle.mpe_layout.specs.Layout.{legal, members_of, lowest_of}
 use Rattle.mpe_layout.specs.declared.MpeZone.{MpeZone}
@@ -55,7 +55,7 @@ unfolding recalls
 occupied true held last mark e = rw (ne_eqb held 0 (λ z. omega arith))
 occupied false held last mark e = refl
 
-unplayed-by : (t u : Bool) → u ≡ false → (if t then u else false) ≡ false
+unplayed-by : (t u : Bool) → u ≡ false → (when t then u else false) ≡ false
 unplayed-by true u e = e
 unplayed-by false u e = refl
 

@@ -2,7 +2,7 @@
 -- Assumes nothing.
 use Rattle.std.proofs.Common.{◌≡◌, ℕ, suc, ◌+◌, ◌-◌, ◌<◌, ◌≤◌, Bool, true, false, eqb, sym, refl, ap, subst, arith, eq-eqb, ne_eqb, eqb-true}
 use borrow.Author.Tests.{eqb-false}
-use Rattle.ump.specs.Choice.{if◌then◌else◌}
+use Rattle.ump.specs.Choice.{when◌then◌else◌}
 use Rattle.ump.specs.Outcome.{given, out_of_range, none_there}
 use Rattle.mpe_layout.specs.Layout.{legal, of_legal, members_of, lowest_of, lowest_or_none}
 use Rattle.mpe_layout.specs.declared.MpeZone.{MpeZone}
@@ -24,30 +24,30 @@ use Rattle.mpe_allocator.proofs.Read.{chosen-is-member, one-chosen, recall-chose
 pub differ : {A : Type 0} → ◌≡◌ {A = ℕ} 0 1 → A
 differ e = absurd (omega arith)
 
-out-by : (t e : Bool) (n : ℕ) → out_of_range ≡ (if t then (if e then none_there else given n) else out_of_range) → t ≡ false
+out-by : (t e : Bool) (n : ℕ) → out_of_range ≡ (when t then (when e then none_there else given n) else out_of_range) → t ≡ false
 out-by true true n h =
     let z : ◌≡◌ {A = ℕ} 1 3 = cc in
     absurd (omega arith)
 out-by true false n h = differ (cc)
 out-by false e n h = refl
 
-none-by : (t e : Bool) (n : ℕ) → none_there ≡ (if t then (if e then none_there else given n) else out_of_range) → (t ≡ true) × (e ≡ true)
+none-by : (t e : Bool) (n : ℕ) → none_there ≡ (when t then (when e then none_there else given n) else out_of_range) → (t ≡ true) × (e ≡ true)
 none-by true true n h = (refl, refl)
 none-by true false n h = differ (cc)
 none-by false e n h =
     let z : ◌≡◌ {A = ℕ} 3 1 = cc in
     absurd (omega arith)
 
-given_by : (t e : Bool) (n m : ℕ) → given m ≡ (if t then (if e then none_there else given n) else out_of_range) → (t ≡ true) × (e ≡ false) × (m ≡ n)
+given_by : (t e : Bool) (n m : ℕ) → given m ≡ (when t then (when e then none_there else given n) else out_of_range) → (t ≡ true) × (e ≡ false) × (m ≡ n)
 given_by true true n m h = differ (cc)
 given_by true false n m h = (refl, refl, cc)
 given_by false e n m h = differ (cc)
 
-count_by : (t : Bool) (n m : ℕ) → given m ≡ (if t then given n else out_of_range) → m ≡ n
+count_by : (t : Bool) (n m : ℕ) → given m ≡ (when t then given n else out_of_range) → m ≡ n
 count_by true n m h = cc
 count_by false n m h = differ (cc)
 
-uncounted-by : (t : Bool) (n : ℕ) → out_of_range ≡ (if t then given n else out_of_range) → t ≡ false
+uncounted-by : (t : Bool) (n : ℕ) → out_of_range ≡ (when t then given n else out_of_range) → t ≡ false
 uncounted-by true n h = differ (cc)
 uncounted-by false n h = refl
 

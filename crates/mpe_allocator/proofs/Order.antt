@@ -2,7 +2,7 @@
 -- Assumes nothing.
 use Rattle.std.proofs.Common.{◌≡◌, ℕ, ◌<◌, ◌≤◌, Bool, true, false, eqb, ltb, ◌⊎◌, refl, inl, inr, ⊎_elim, arith, ltb-false, ltb-true, lt-ltb, eq-eqb, ne_eqb, eqb-true, le-leb, leb-false, leb-true}
 use borrow.Author.Tests.{eqb-false}
-use Rattle.ump.specs.Choice.{if◌then◌else◌}
+use Rattle.ump.specs.Choice.{when◌then◌else◌}
 use Rattle.mpe_layout.specs.declared.MpeZone.{MpeZone}
 use Rattle.mpe_layout.specs.declared.MpeZone.TheVariants.{Lower, Upper}
 use Rattle.mpe_allocator.specs.declared.MpeNoteAllocator.{MpeNoteAllocator}
@@ -13,7 +13,7 @@ never e = let z : ◌≡◌ {A = ℕ} 0 1 = cc in absurd (omega arith)
 
 -- ---- the smaller number
 
-by-test : (x y : ℕ) (t e : Bool) → eqb x y ≡ e → (if e then t else ltb x y) ≡ true → (x < y) ⊎ ((x ≡ y) × (t ≡ true))
+by-test : (x y : ℕ) (t e : Bool) → eqb x y ≡ e → (when e then t else ltb x y) ≡ true → (x < y) ⊎ ((x ≡ y) × (t ≡ true))
 by-test x y t true e h = inr (eqb-true x y e, h)
 by-test x y t false e h = inl (ltb-true x y h)
 
@@ -40,7 +40,7 @@ smaller-trans x y z t u v f p q =
     (view y z u q))
     (view x y t p)
 
-total-by : (x y : ℕ) (t u e : Bool) → eqb x y ≡ e → (t ≡ false → u ≡ true) → (if e then t else ltb x y) ≡ false → smaller_first y x u ≡ true
+total-by : (x y : ℕ) (t u e : Bool) → eqb x y ≡ e → (t ≡ false → u ≡ true) → (when e then t else ltb x y) ≡ false → smaller_first y x u ≡ true
 total-by x y t u true e f h =
     let d : y ≡ x = omega (arith, eqb-true x y e) in
     equal y x u d (f h)

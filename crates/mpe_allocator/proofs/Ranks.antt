@@ -1,7 +1,7 @@
 -- The order of members by rank is `goes_first`.
 -- Assumes nothing.
 use Rattle.std.proofs.Common.{◌≡◌, ℕ, ◌+◌, ◌-◌, ◌*◌, ◌<◌, Bool, true, false, ltb, ◌⊎◌, sym, refl, ◌∙◌, inl, inr, ⊎_elim, eq-or-lt_of_le, arith, ltb-false, ltb-true, le-ltb, eq-eqb, ne_eqb}
-use Rattle.ump.specs.Choice.{if◌then◌else◌}
+use Rattle.ump.specs.Choice.{when◌then◌else◌}
 use Rattle.ump.proofs.Cases.{by-test}
 use Rattle.mpe_layout.specs.declared.MpeZone.{MpeZone}
 use Rattle.mpe_allocator.specs.declared.MpeNoteAllocator.{MpeNoteAllocator}
@@ -37,7 +37,7 @@ in_order x y v w t l m e =
 
 -- the rank of a member that holds h notes and was last released at x
 abbrev pub rank_of : Bool → ℕ → ℕ → ℕ
-rank_of recall h x = if recall then 4294967295 - x else 4294967296 * (h + 1) + x
+rank_of recall h x = when recall then 4294967295 - x else 4294967296 * (h + 1) + x
 
 by_rank : (p q : Bool) (h k x y : ℕ) (t : Bool) → x < 4294967296 → y < 4294967296 → by_recall p q (smaller_first y x t) (smaller_first h k (smaller_first x y t)) ≡ smaller_first (rank_of p h x) (rank_of q k y) t
 unfolding by_recall
@@ -67,16 +67,16 @@ module _ (a : MpeNoteAllocator) (zone : MpeZone) (mark : ℕ) where
       ((c ≡ first) × (least ≡ 18446744073709551615))
       ⊎ (Foremost a zone mark first c best × (least ≡ rank_on best) × (released_on a best < 4294967296))
 
-  begun : (c best : ℕ) (t : Bool) → t ≡ true → released_on a c < 4294967296 → SoFar c (c + 1) (if t then c else best) (if t then rank_on c else 18446744073709551615)
+  begun : (c best : ℕ) (t : Bool) → t ≡ true → released_on a c < 4294967296 → SoFar c (c + 1) (when t then c else best) (when t then rank_on c else 18446744073709551615)
   begun c best true e u = inr (alone a zone mark c, refl, u)
   begun c best false e u = never (sym e)
 
-  further-by : (first c best : ℕ) (t : Bool) → Foremost a zone mark first (c + 1) (if t then c else best) → released_on a c < 4294967296 → released_on a best < 4294967296 → SoFar first (c + 1) (if t then c else best) (if t then rank_on c else rank_on best)
+  further-by : (first c best : ℕ) (t : Bool) → Foremost a zone mark first (c + 1) (when t then c else best) → released_on a c < 4294967296 → released_on a best < 4294967296 → SoFar first (c + 1) (when t then c else best) (when t then rank_on c else rank_on best)
   further-by first c best true f u v = inr (f, refl, u)
   further-by first c best false f u v = inr (f, refl, v)
 
   -- one channel more
-  pub passed : (first c best least : ℕ) → released_on a c < 4294967296 → rank_on c < 18446744073709551615 → SoFar first c best least → SoFar first (c + 1) (if smaller_first (rank_on c) least (tie_first zone c best) then c else best) (if smaller_first (rank_on c) least (tie_first zone c best) then rank_on c else least)
+  pub passed : (first c best least : ℕ) → released_on a c < 4294967296 → rank_on c < 18446744073709551615 → SoFar first c best least → SoFar first (c + 1) (when smaller_first (rank_on c) least (tie_first zone c best) then c else best) (when smaller_first (rank_on c) least (tie_first zone c best) then rank_on c else least)
   passed first c best least u w (inl (e, m)) =
       rw (← e, m) (begun c best (smaller_first (rank_on c) 18446744073709551615 (tie_first zone c best)) (less (rank_on c) 18446744073709551615 (tie_first zone c best) w) u)
   passed first c best least u w (inr (f, m, v)) =

@@ -1,7 +1,7 @@
 -- The chosen channel, read as document 01 has it.
 -- Assumes nothing.
 use Rattle.std.proofs.Common.{◌≡◌, ℕ, ◌+◌, ◌-◌, ◌<◌, Bool, true, false, eqb, ◌⊎◌, sym, refl, ◌∙◌, subst, inl, inr, ⊎_elim, arith, eq-eqb, eqb-true, leb-true}
-use Rattle.ump.specs.Choice.{if◌then◌else◌}
+use Rattle.ump.specs.Choice.{when◌then◌else◌}
 use Rattle.ump.proofs.Cases.{by-test}
 use Rattle.mpe_layout.specs.Layout.{legal, members_of, lowest_of}
 use Rattle.mpe_layout.specs.declared.MpeZone.{MpeZone}
@@ -48,14 +48,14 @@ none-recalls false true f i h e = never (sym h)
 none-recalls false false f i h e = h
 
 -- what recalls has the option on, holds no note, and had the note last; and the other way round
-both_by : (t u : Bool) → (if t then u else false) ≡ true → (t ≡ true) × (u ≡ true)
+both_by : (t u : Bool) → (when t then u else false) ≡ true → (t ≡ true) × (u ≡ true)
 both_by true u h = (refl, h)
 both_by false u h = never (sym h)
 
 recalled : (option : Bool) (held last mark : ℕ) → recalls option held last mark ≡ true → (option ≡ true) × (held ≡ 0) × (last ≡ mark)
 unfolding recalls
 recalled option held last mark h =
-    let o = both_by option (if eqb held 0 then eqb last mark else false) h in
+    let o = both_by option (when eqb held 0 then eqb last mark else false) h in
     let r = both_by (eqb held 0) (eqb last mark) o.1 in
     (o.0, eqb-true held 0 r.0, eqb-true last mark r.1)
 

@@ -1,7 +1,7 @@
 -- The foremost channel: one channel more, that it is the only one, and that `choice` is it.
 -- Assumes nothing.
 use Rattle.std.proofs.Common.{◌≡◌, ℕ, zero, suc, ◌+◌, ◌<◌, ◌≤◌, Bool, true, false, refl, subst, ⊎_elim, eq-or-lt_of_le, arith}
-use Rattle.ump.specs.Choice.{if◌then◌else◌}
+use Rattle.ump.specs.Choice.{when◌then◌else◌}
 use Rattle.mpe_layout.specs.declared.MpeZone.{MpeZone}
 use Rattle.mpe_allocator.specs.declared.MpeNoteAllocator.{MpeNoteAllocator}
 use Rattle.mpe_allocator.specs.Choice.{goes_first, Foremost, foremost_of, choice}
@@ -30,7 +30,7 @@ module _ (a : MpeNoteAllocator) (zone : MpeZone) (mark : ℕ) where
             (eq-or-lt_of_le (let k : b ≤ c = omega arith in k));
       }
 
-  grown-by : (first c best : ℕ) (t : Bool) → goes_first a zone mark c best ≡ t → Foremost a zone mark first c best → Foremost a zone mark first (c + 1) (if t then c else best)
+  grown-by : (first c best : ℕ) (t : Bool) → goes_first a zone mark c best ≡ t → Foremost a zone mark first c best → Foremost a zone mark first (c + 1) (when t then c else best)
   grown-by first c best true e f =
       further first c best c f (let l = f.from in let u = f.below in omega arith) (omega arith) e (first-refl a zone mark c)
   grown-by first c best false e f =

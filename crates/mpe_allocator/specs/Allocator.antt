@@ -1,6 +1,6 @@
 -- What each call of a note allocator answers, and the allocator after it (M1-100 2.2.4.1, Appendix A.3; document 01, "The sending side").
 use Rattle.std.specs.Prelude.{◌≡◌, ℕ, ◌+◌, ◌-◌, ◌%◌, ◌^◌, min, Bool, true, false, replicate, ◌==◌, nat_eq, slice_set}
-use Rattle.ump.specs.Choice.{if◌then◌else◌}
+use Rattle.ump.specs.Choice.{when◌then◌else◌}
 use Rattle.ump.specs.Outcome.{Outcome, given, out_of_range, none_there}
 use Rattle.mpe_layout.specs.Layout.{legal, members_of, lowest_of}
 use Rattle.mpe_layout.specs.declared.MpeZone.{MpeZone}
@@ -64,8 +64,8 @@ pub data AllocatedAs (a : MpeNoteAllocator) (l : MpeLayout) (zone : MpeZone) (no
 -- the same, computed
 unfoldable pub allocation_of : MpeNoteAllocator → MpeLayout → MpeZone → ℕ → Allocation
 allocation_of a l zone note =
-    if legal l then
-    (if nat_eq (members_of l zone) 0 then answered a NoMembers else
+    when legal l then
+    (when nat_eq (members_of l zone) 0 then answered a NoMembers else
     placed_on a (mark_of note) (choice a zone (mark_of note) (lowest_of l zone) (members_of l zone - 1)))
     else answered a OutOfRange
 
@@ -86,7 +86,7 @@ one_fewer a c =
 
 -- a channel without a held note changes nothing
 unfoldable pub without_note : MpeNoteAllocator → ℕ → MpeNoteAllocator
-without_note a c = if held_on a c == 0 then a else one_fewer a c
+without_note a c = when held_on a c == 0 then a else one_fewer a c
 
 -- the same_note option on or off
 abbrev pub with_option : MpeNoteAllocator → Bool → MpeNoteAllocator

@@ -1,6 +1,6 @@
 -- Lists of calls on one allocator: what each answers and leaves, and what the counts sum to (document 01, "The sending side").
 use Rattle.std.specs.Prelude.{◌≡◌, ℕ, ◌+◌, Bool, false, ◌||◌, List, [], ◌∷◌, ◌==◌, nat_le}
-use Rattle.ump.specs.Choice.{if◌then◌else◌}
+use Rattle.ump.specs.Choice.{when◌then◌else◌}
 use Rattle.ump.specs.Packet.{packet_value}
 use Rattle.mpe_layout.specs.declared.MpeZone.{MpeZone}
 use Rattle.mpe_layout.specs.declared.MpeLayout.{MpeLayout}
@@ -77,7 +77,7 @@ got NoMembers = 0
 
 -- 1 for a count above 0
 abbrev pub one_if_held : ℕ → ℕ
-one_if_held held = if held == 0 then 0 else 1
+one_if_held held = when held == 0 then 0 else 1
 
 -- a tally after a call on allocator a
 unfoldable pub tallied : MpeNoteAllocator → Tally → AllocatorCall → Tally

@@ -1,6 +1,6 @@
 -- Which member channel takes a new note (M1-100 2.2.4.1, Appendix A.3; document 01, "The sending side"; document 02, 2026-03).
 use Rattle.std.specs.Prelude.{◌≡◌, ℕ, zero, suc, ◌+◌, ◌%◌, ◌^◌, ◌<◌, ◌≤◌, Bool, true, false, ◌==◌, nat_eq, nat_le, nat_lt, slice_index}
-use Rattle.ump.specs.Choice.{if◌then◌else◌}
+use Rattle.ump.specs.Choice.{when◌then◌else◌}
 use Rattle.mpe_layout.specs.Layout.{members_of, lowest_of}
 use Rattle.mpe_layout.specs.declared.MpeZone.{MpeZone}
 use Rattle.mpe_layout.specs.declared.MpeZone.TheVariants.{Lower, Upper}
@@ -28,11 +28,11 @@ tie_first Upper c b = nat_le b c
 
 -- the smaller number goes first, and equal ones leave it to the rest
 unfoldable pub smaller_first : ℕ → ℕ → Bool → Bool
-smaller_first x y rest = if x == y then rest else nat_lt x y
+smaller_first x y rest = when x == y then rest else nat_lt x y
 
 -- under the same_note option, a free channel recalls the note that it played last (A.3)
 unfoldable pub recalls : Bool → ℕ → ℕ → ℕ → Bool
-recalls option held last mark = if option then (if nat_eq held 0 then (last == mark) else false) else false
+recalls option held last mark = when option then (when nat_eq held 0 then (last == mark) else false) else false
 
 abbrev pub recalls_on : MpeNoteAllocator → ℕ → ℕ → Bool
 recalls_on a mark c = recalls a.same_note (held_on a c) (last_on a c) mark
@@ -48,7 +48,7 @@ idlest_first a zone c b =
 
 -- a channel that recalls goes before one that does not; of two that recall `latest` decides, of two others `idlest`
 unfoldable pub by_recall : Bool → Bool → Bool → Bool → Bool
-by_recall c b latest idlest = if c then (if b then latest else true) else (if b then false else idlest)
+by_recall c b latest idlest = when c then (when b then latest else true) else (when b then false else idlest)
 
 -- channel c goes before channel b, for a note of this mark in a zone
 unfoldable pub goes_first : MpeNoteAllocator → MpeZone → ℕ → ℕ → ℕ → Bool
@@ -67,7 +67,7 @@ Chosen a l zone note c = Foremost a zone (mark_of note) (lowest_of l zone) (lowe
 
 -- the same, computed: the foremost of `first` and the n channels above it
 abbrev pub foremost_of : MpeNoteAllocator → MpeZone → ℕ → ℕ → ℕ → ℕ
-foremost_of a zone mark b c = if goes_first a zone mark c b then c else b
+foremost_of a zone mark b c = when goes_first a zone mark c b then c else b
 
 unfoldable pub choice : MpeNoteAllocator → MpeZone → ℕ → ℕ → ℕ → ℕ
 choice a zone mark first zero = first

@@ -3,7 +3,7 @@
 
 ghost use Rattle.std.specs.Prelude.{◌≡◌, ◌+◌, ◌-◌, ◌*◌, ◌<◌, ◌≤◌, false};
 ghost use Rattle.ump.specs.Packet.{packet_value};
-ghost use Rattle.ump.specs.Choice.{if◌then◌else◌};
+ghost use Rattle.ump.specs.Choice.{when◌then◌else◌};
 ghost use Rattle.mpe_allocator.specs.Choice.{held_on, tie_first, smaller_first, recalls};
 ghost use Rattle.mpe_allocator.specs.Allocator.{emptied, note_reply_read, one_more, Placed, AllocatedAs, allocation_of, tick, without_note, with_option};
 ghost use Rattle.mpe_allocator.specs.Calls.{note_on, note_off, active_notes, same_note, set_same_note, reset, note_reply, count, option, nothing, CallGives, CountsSum};
@@ -76,7 +76,7 @@ fn is_recall(option: bool, held: u8, last: u8, mark: u8) -> bool
 // The rank of a member for a note: the smaller goes first. Those that recall the note have the ranks below 4,294,967,296, the later their release the
 // smaller; the others follow, by their held notes and then by their last release.
 fn rank(recall: bool, held: u8, released: u32) -> u64
-    ensures is { result ≡ (if recall then 4294967295 - released else 4294967296 * (held + 1) + released) }
+    ensures is { result ≡ (when recall then 4294967295 - released else 4294967296 * (held + 1) + released) }
     ensures within { (released < 4294967296) × (result < 18446744073709551615) }
 {
     if recall {
@@ -87,7 +87,7 @@ fn rank(recall: bool, held: u8, released: u32) -> u64
 
 // The first of two numbers where the test holds, else the second.
 fn pick(test: bool, x: u64, y: u64) -> u64
-    ensures { result ≡ (if test then x else y) }
+    ensures { result ≡ (when test then x else y) }
 {
     if test {
         return x;

@@ -1,6 +1,6 @@
 -- The classes of messages (M1-100, Appendix E, Table 5).
 use Rattle.std.specs.Prelude.{Bool, true, false}
-use Rattle.ump.specs.Choice.{if◌then◌else◌}
+use Rattle.ump.specs.Choice.{when◌then◌else◌}
 use Rattle.mpe_class.specs.declared.MpeMessage.{MpeMessage}
 use Rattle.mpe_class.specs.declared.MpeMessage.TheVariants.{Mcm, PitchBendSensitivity, PitchBend, ChannelPressure, Brightness, PolyPressure, AllSoundOff, ResetAllControllers, LocalControl, AllNotesOff, OmniOff, OmniOn, MonoModeOn, PolyModeOn, OtherControlChange, OtherRpn, Nrpn, ProgramChange, BankSelect, Note, System}
 use Rattle.mpe_class.specs.declared.MpeClass.{MpeClass}
@@ -41,7 +41,7 @@ row_of System mono = row O O O O
 
 abbrev pub column_of : Row → Bool → Bool → MpeClass
 column_of r manager transmit =
-    if manager then (if transmit then r.0 else r.1) else if transmit then r.2 else r.3
+    when manager then (when transmit then r.0 else r.1) else when transmit then r.2 else r.3
 
 abbrev pub class_of : MpeMessage → Bool → Bool → Bool → MpeClass
 class_of message manager transmit mono = column_of (row_of message mono) manager transmit

@@ -7,7 +7,7 @@ use mathlib.Core.Logic.{◌⊎◌, inl, inr, ⊎_elim}
 use native.Mathlib.Omega.{arith}
 use lib.Dec.{eqb, ltb}
 use borrow.Author.Tests.{eqb-true, eq-eqb, ne_eqb, le-ltb, ltb-false}
-use Rattle.ump.specs.Choice.{if◌then◌else◌}
+use Rattle.ump.specs.Choice.{when◌then◌else◌}
 use Rattle.ump.specs.Outcome.{given, out_of_range, none_there}
 use Rattle.ump.specs.declared.controller.Rpn.{Rpn}
 use Rattle.ump.specs.declared.controller.Rpn.TheVariants as rpn
@@ -123,7 +123,7 @@ otherwise-ignored z change k a n =
 -- ---- 2
 role_at : ℕ → MpeRole
 role_at n =
-    if eqb n 0 then role.Manager Lower else if eqb n 2 then role.Member Lower else if eqb n 4 then role.Manager Upper else
+    when eqb n 0 then role.Manager Lower else when eqb n 2 then role.Member Lower else when eqb n 4 then role.Manager Upper else
     role.Member Upper
 
 slot-role : (zone : MpeZone) (manager : Bool) → role_at (slot_of zone manager) ≡ role_for zone manager

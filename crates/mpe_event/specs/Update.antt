@@ -1,6 +1,6 @@
 -- What a message does to the zones, and its event (document 01, "The receiver"; M1-100 2.2 and 2.3).
 use Rattle.std.specs.Prelude.{ℕ, Bool, true, false, eqb}
-use Rattle.ump.specs.Choice.{if◌then◌else◌}
+use Rattle.ump.specs.Choice.{when◌then◌else◌}
 use Rattle.ump.specs.Outcome.{Outcome, given, declined, out_of_range}
 use Rattle.ump.specs.Word.{opcode_of, channel_of, first_of, word_form}
 use Rattle.ump.specs.declared.controller.Rpn.{Rpn}
@@ -37,7 +37,7 @@ decoded_rpn rpn.TuningProgramSelect change = Nothing
 decoded_rpn rpn.TuningBankSelect change = Nothing
 decoded_rpn rpn.ModulationDepthRange change = Nothing
 decoded_rpn rpn.Null change = Nothing
-decoded_rpn (rpn.Other m l) change = if eqb m 0 then (if eqb l 6 then Configuration change else Nothing) else Nothing
+decoded_rpn (rpn.Other m l) change = when eqb m 0 then (when eqb l 6 then Configuration change else Nothing) else Nothing
 
 abbrev pub decoded_parameter : Parameter → ParameterChange → Decoded
 decoded_parameter (Registered r) change = decoded_rpn r change
@@ -49,7 +49,7 @@ decoded_event (Event e) = decoded_parameter e.parameter e.change
 
 -- an event is used only with a control change
 abbrev pub decoded : ℕ → MaybeEvent → Decoded
-decoded opcode e = if eqb opcode 0xB then decoded_event e else Nothing
+decoded opcode e = when eqb opcode 0xB then decoded_event e else Nothing
 
 abbrev pub zones_update : Zones → MpeEvent → ZonesUpdate
 zones_update z e = record { zones = z; event = e }
@@ -71,7 +71,7 @@ configured_by z zone Decrement = zones_update z Ignored
 
 -- the zone that a channel announces: channel 0 Lower, channel 15 Upper (M1-100 2.2.1)
 abbrev pub announced_on : ℕ → AnnouncedZone
-announced_on channel = if eqb channel 0 then Announced Lower else if eqb channel 15 then Announced Upper else NoneAnnounced
+announced_on channel = when eqb channel 0 then Announced Lower else when eqb channel 15 then Announced Upper else NoneAnnounced
 
 abbrev pub configured_as : Zones → AnnouncedZone → ParameterChange → ZonesUpdate
 configured_as z NoneAnnounced change = zones_update z Ignored
@@ -89,25 +89,25 @@ sensitivity_update z (role.Member zone) change = zones_update (sensitivity_chang
 
 -- program change and bank select reach a member only in mode 4 (M1-100 2.3.3)
 abbrev pub in_mode4 : MpeZone → Bool → MpeEvent
-in_mode4 zone mono = if mono then Zone zone false else Ignored
+in_mode4 zone mono = when mono then Zone zone false else Ignored
 
 -- 126 and 127 set the mode on the lowest member (M1-100 2.2.4.3)
 abbrev pub mode_event : MpeZone → Bool → MpeEvent
-mode_event zone lowest = if lowest then Mode zone else Zone zone false
+mode_event zone lowest = when lowest then Mode zone else Zone zone false
 
 -- a message on a member that is no control change: poly pressure is prohibited (M1-100 2.2.7), program change is for mode 4 (2.3.3)
 abbrev pub other_on_member : MpeZone → Bool → ℕ → MpeEvent
 other_on_member zone mono opcode =
-    if eqb opcode 0xA then Ignored else if eqb opcode 0xC then in_mode4 zone mono else Zone zone false
+    when eqb opcode 0xA then Ignored else when eqb opcode 0xC then in_mode4 zone mono else Zone zone false
 
 -- a message on a member, by the zone's mode and whether the member is the lowest (document 01, "The receiver", 4 to 6)
 unfoldable pub on_member : MpeZone → Bool → Bool → ℕ → ℕ → MpeEvent
 on_member zone mono lowest opcode a =
-    if eqb opcode 0xB then
-    (if eqb a 0 then in_mode4 zone mono else
-    if eqb a 32 then in_mode4 zone mono else
-    if eqb a 126 then mode_event zone lowest else
-    if eqb a 127 then mode_event zone lowest else
+    when eqb opcode 0xB then
+    (when eqb a 0 then in_mode4 zone mono else
+    when eqb a 32 then in_mode4 zone mono else
+    when eqb a 126 then mode_event zone lowest else
+    when eqb a 127 then mode_event zone lowest else
     Zone zone false)
     else other_on_member zone mono opcode
 
@@ -155,10 +155,10 @@ mpe_reply_read (reply.Received e) = given e
 mpe_reply_read reply.OutOfRange = out_of_range
 
 abbrev pub zones_reply : Zones → ℕ → MaybeEvent → Outcome MpeEvent
-zones_reply z w e = if word_form w then given (word_update z e w).event else out_of_range
+zones_reply z w e = when word_form w then given (word_update z e w).event else out_of_range
 
 abbrev pub zones_after : Zones → ℕ → MaybeEvent → Zones
-zones_after z w e = if word_form w then (word_update z e w).zones else z
+zones_after z w e = when word_form w then (word_update z e w).zones else z
 
 -- the channels that an event resets
 abbrev pub reset_in : MpeEvent → ℕ

@@ -7,7 +7,7 @@ use Prim.Native.Nat.{ℕ, ◌+◌, ◌<◌, ◌≤◌}
 use native.Mathlib.Omega.{arith}
 use lib.Dec.{ltb, eqb}
 use borrow.Author.Tests.{ltb-true, ltb-false, leb-true, eqb-false, le-ltb, le-leb, ne_eqb}
-use Rattle.ump.specs.Choice.{if◌then◌else◌}
+use Rattle.ump.specs.Choice.{when◌then◌else◌}
 use Rattle.mpe_layout.specs.Layout.{legal_counts, legal, members_of}
 use Rattle.mpe_layout.specs.declared.MpeZone.{MpeZone}
 use Rattle.mpe_layout.specs.declared.MpeZone.TheVariants.{Lower, Upper}
@@ -27,12 +27,12 @@ pub record Bounds (lower upper : ℕ) : Type 0 where
   pub in_both : 0 < lower → 0 < upper → lower + upper ≤ 14
 
 -- a refusing test did not refuse
-passed : (b x : Bool) → (if b then false else x) ≡ true → (b ≡ false) × (x ≡ true)
+passed : (b x : Bool) → (when b then false else x) ≡ true → (b ≡ false) × (x ≡ true)
 passed true x h = absurd (let z : ◌≡◌ {A = ℕ} 0 1 = cc in omega arith)
 passed false x h = (refl, h)
 
 -- neither of two accepting tests accepted
-through : (b c x : Bool) → (if b then true else if c then true else x) ≡ true → b ≡ false → c ≡ false → x ≡ true
+through : (b c x : Bool) → (when b then true else when c then true else x) ≡ true → b ≡ false → c ≡ false → x ≡ true
 through b c x h p q = rw (p, q) at h
 
 counts-bounds : (lower upper : ℕ) → legal_counts lower upper ≡ true → Bounds lower upper
@@ -47,7 +47,7 @@ counts-bounds lower upper h =
           (through (eqb lower 0) (eqb upper 0) _ q.1 (ne_eqb lower 0 (λ e. omega arith)) (ne_eqb upper 0 (λ e. omega arith)));
     }
 
-accepted : (b c x : Bool) → (b ≡ false → c ≡ false → x ≡ true) → (if b then true else if c then true else x) ≡ true
+accepted : (b c x : Bool) → (b ≡ false → c ≡ false → x ≡ true) → (when b then true else when c then true else x) ≡ true
 accepted true c x f = refl
 accepted false true x f = refl
 accepted false false x f = f refl refl

@@ -8,7 +8,7 @@ use native.Mathlib.Nat.{add-zero}
 use native.Mathlib.Omega.{arith}
 use lib.Dec.{leb, eqb}
 use borrow.Author.Tests.{le-leb, lt-leb, eq-eqb, ne_eqb, eqb-true}
-use Rattle.ump.specs.Choice.{if◌then◌else◌}
+use Rattle.ump.specs.Choice.{when◌then◌else◌}
 use Rattle.mpe_layout.specs.Layout.{legal, members_of, manager_of, lowest_of, place_of, inside, role_at, role_of}
 use Rattle.mpe_layout.specs.declared.MpeZone.{MpeZone}
 use Rattle.mpe_layout.specs.declared.MpeZone.TheVariants.{Lower, Upper}
@@ -33,7 +33,7 @@ unfolding place_of
 place-outside members distance h =
     rw (ne_eqb distance 0 (λ e. omega arith), lt-leb distance members h) (either (eqb members 0))
   where
-    either : (b : Bool) → (if b then Outside else Outside) ≡ Outside
+    either : (b : Bool) → (when b then Outside else Outside) ≡ Outside
     either true = refl
     either false = refl
 
@@ -53,8 +53,8 @@ unfolding place_of
 place_is members distance = by (eqb members 0) (eqb distance 0) (leb distance members)
   where
     by : (a b c : Bool)
-        → (if a then Outside else if b then AsManager else if c then AsMember else Outside)
-        ≡ placed (inside (if a then Outside else if b then AsManager else if c then AsMember else Outside)) b
+        → (when a then Outside else when b then AsManager else when c then AsMember else Outside)
+        ≡ placed (inside (when a then Outside else when b then AsManager else when c then AsMember else Outside)) b
     by true b c = refl
     by false true c = refl
     by false false true = refl
@@ -115,7 +115,7 @@ at-manager : (members distance : ℕ) → place_of members distance ≡ AsManage
 unfolding place_of
 at-manager members distance e = by (eqb members 0) (eqb distance 0) (leb distance members) (eqb-true distance 0) e
   where
-    by : (a b c : Bool) → (b ≡ true → distance ≡ 0) → (if a then Outside else if b then AsManager else if c then AsMember else Outside) ≡ AsManager → distance ≡ 0
+    by : (a b c : Bool) → (b ≡ true → distance ≡ 0) → (when a then Outside else when b then AsManager else when c then AsMember else Outside) ≡ AsManager → distance ≡ 0
     by true b c f e = let n : ◌≡◌ {A = ℕ} 0 1 = cc in absurd (omega arith)
     by false true c f e = f refl
     by false false true f e = let n : ◌≡◌ {A = ℕ} 0 1 = cc in absurd (omega arith)

@@ -1,6 +1,6 @@
 -- Zones, the roles of channels in them, and the layouts that MPE Configuration Messages make (M1-100 1.5.1, 2.2.1, Appendix B).
 use Rattle.std.specs.Prelude.{ℕ, ◌+◌, ◌-◌, Bool, true, false, ◌||◌, ltb, leb, eqb}
-use Rattle.ump.specs.Choice.{if◌then◌else◌}
+use Rattle.ump.specs.Choice.{when◌then◌else◌}
 use Rattle.ump.specs.Outcome.{Outcome, given, out_of_range, none_there}
 use Rattle.ump.specs.Packet.{packet_value}
 use Rattle.mpe_layout.specs.declared.MpeZone.{MpeZone}
@@ -35,15 +35,15 @@ default_layout = layout_of 15 0
 -- a zone has 0 to 15 members, and two active zones have at most 14 in all, so that no channel is in both (M1-100 2.2.1)
 unfoldable pub legal_counts : ℕ → ℕ → Bool
 legal_counts lower upper =
-    if ltb 15 lower then false else if ltb 15 upper then false else
-    if eqb lower 0 then true else if eqb upper 0 then true else leb (lower + upper) 14
+    when ltb 15 lower then false else when ltb 15 upper then false else
+    when eqb lower 0 then true else when eqb upper 0 then true else leb (lower + upper) 14
 
 unfoldable pub legal : MpeLayout → Bool
 legal l = legal_counts l.lower l.upper
 
 -- what a call answers that takes a layout: it is tested first (document 01, "Replies that decline")
 abbrev pub of_legal : {A : Type 0} → MpeLayout → Outcome A → Outcome A
-of_legal l answer = if legal l then answer else out_of_range
+of_legal l answer = when legal l then answer else out_of_range
 
 -- the member count of a zone; 0: the zone is inactive
 abbrev pub members_of : MpeLayout → MpeZone → ℕ
@@ -66,7 +66,7 @@ active lower upper = ltb 0 lower || ltb 0 upper
 -- a channel at a distance from the manager of a zone with so many members: members follow the manager without a gap (M1-100 2.2.1)
 unfoldable pub place_of : ℕ → ℕ → ZonePlace
 place_of members distance =
-    if eqb members 0 then Outside else if eqb distance 0 then AsManager else if leb distance members then AsMember else Outside
+    when eqb members 0 then Outside else when eqb distance 0 then AsManager else when leb distance members then AsMember else Outside
 
 -- a place in the zone, as its manager or a member
 abbrev pub inside : ZonePlace → Bool
@@ -97,9 +97,9 @@ lowest_of l zone = lowest_in zone (members_of l zone)
 -- what is left of a zone when the other is given members (M1-100 2.2.1, Appendix B)
 unfoldable pub left_beside : ℕ → ℕ → ℕ
 left_beside members other =
-    if eqb members 0 then other else
-    if leb 14 members then 0 else
-    if ltb (14 - members) other then 14 - members else other
+    when eqb members 0 then other else
+    when leb 14 members then 0 else
+    when ltb (14 - members) other then 14 - members else other
 
 -- the layout with these members in a zone and those in the other
 abbrev pub layout_for : MpeZone → ℕ → ℕ → MpeLayout
@@ -109,7 +109,7 @@ layout_for Upper members other = layout_of other members
 -- the layout after an MPE Configuration Message (M1-100 2.2.1, Appendix B): no change above 15
 unfoldable pub with_mcm : MpeLayout → MpeZone → ℕ → MpeLayout
 with_mcm l zone members =
-    if ltb 15 members then l else layout_for zone members (left_beside members (members_of l (other_zone zone)))
+    when ltb 15 members then l else layout_for zone members (left_beside members (members_of l (other_zone zone)))
 
 -- what `new`, `with_mcm` and `role` give or decline (document 01, "Layout and pitch"); a channel is taken modulo 16
 abbrev pub new_layout : ℕ → ℕ → Outcome MpeLayout
@@ -145,4 +145,4 @@ lowest_found lowest_member.NoMembers = none_there
 
 -- the lowest member of a zone with so many, or none
 abbrev pub lowest_or_none : MpeZone → ℕ → Outcome ℕ
-lowest_or_none zone members = if eqb members 0 then none_there else given (lowest_in zone members)
+lowest_or_none zone members = when eqb members 0 then none_there else given (lowest_in zone members)

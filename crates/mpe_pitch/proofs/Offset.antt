@@ -12,7 +12,7 @@ use lib.Signed.{◌≤ℤ◌}
 use mir.Syntax.{w32}
 use mir.Val.{to_z, of_z}
 use mir.ValLaws.{to_z-of_z}
-use Rattle.ump.specs.Choice.{if◌then◌else◌}
+use Rattle.ump.specs.Choice.{when◌then◌else◌}
 use Rattle.mpe_pitch.specs.declared.MpeSensitivity.{MpeSensitivity}
 use Rattle.mpe_pitch.specs.Pitch.{range_of, nearest, apart, pitch_offset}
 use Rattle.mpe_pitch.specs.Remainder.{scaled}
@@ -21,7 +21,7 @@ use Rattle.mpe_pitch.proofs.Order.{pos-le, neg-le-pos, neg-le-neg, sum, within-f
 
 -- a magnitude and its sign
 abbrev pub turn : Bool → ℕ → ℤ
-turn b k = if b then neg_ℤ (pos k) else pos k
+turn b k = when b then neg_ℤ (pos k) else pos k
 
 -- ---- differences
 

@@ -9,7 +9,7 @@ use lib.IntN.{ℤ, pos, negsuc, nat_abs, neg_ℤ, ◌+ℤ◌, ◌-ℤ◌, ◌*�
 use mir.Syntax.{w32}
 use mir.Val.{SFits, to_z, of_z}
 use mir.ValLaws.{to_z-of_z}
-use Rattle.ump.specs.Choice.{if◌then◌else◌}
+use Rattle.ump.specs.Choice.{when◌then◌else◌}
 use Rattle.mpe_pitch.specs.declared.MpeSensitivity.{MpeSensitivity}
 use Rattle.mpe_pitch.specs.declared.OffsetWithRemainder.{OffsetWithRemainder}
 use Rattle.mpe_pitch.specs.Pitch.{range_of, nearest, apart, pitch_offset}
@@ -41,11 +41,11 @@ rest_of d m = omega (arith, parted 8191 d m)
 
 -- ---- by the sign
 
-turned-over : (b : Bool) (n : ℕ) → turn b n -ℤ pos 8191 *ℤ turn b (nearest n 8191) ≡ (if b then neg_ℤ (over n) else over n)
+turned-over : (b : Bool) (n : ℕ) → turn b n -ℤ pos 8191 *ℤ turn b (nearest n 8191) ≡ (when b then neg_ℤ (over n) else over n)
 turned-over true n = rw (times-neg 8191 (nearest n 8191)) (sym (neg_ℤ-+ℤ (pos n) (neg_ℤ (pos (8191 * nearest n 8191)))))
 turned-over false n = refl
 
-pub remainder_is : (value : ℕ) (s : MpeSensitivity) → pitch_remainder value s ≡ (if ltb (value % 2 ^ 14) 8192 then neg_ℤ (over (range_of s * apart (value % 2 ^ 14) 8192)) else over (range_of s * apart (value % 2 ^ 14) 8192))
+pub remainder_is : (value : ℕ) (s : MpeSensitivity) → pitch_remainder value s ≡ (when ltb (value % 2 ^ 14) 8192 then neg_ℤ (over (range_of s * apart (value % 2 ^ 14) 8192)) else over (range_of s * apart (value % 2 ^ 14) 8192))
 unfolding pitch_remainder pitch_offset
 remainder_is value s =
     let v = value % 2 ^ 14 in

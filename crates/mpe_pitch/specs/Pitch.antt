@@ -1,6 +1,6 @@
 -- Pitch bend sensitivity, and pitch offsets in hundredths of a cent (M1-100 2.2.5 and Appendix C; document 01, "Layout and pitch").
 use Rattle.std.specs.Prelude.{ℕ, ◌+◌, ◌-◌, ◌*◌, ◌/◌, ◌%◌, ◌^◌, min, ltb, eqb, ℤ, pos, negsuc, neg_ℤ, nat_abs}
-use Rattle.ump.specs.Choice.{if◌then◌else◌}
+use Rattle.ump.specs.Choice.{when◌then◌else◌}
 use Rattle.mpe_pitch.specs.declared.MpeSensitivity.{MpeSensitivity}
 
 -- M1-100 2.2.5: the sensitivities of a zone that is new, its manager's and its members'
@@ -25,7 +25,7 @@ apart a b = (a - b) + (b - a)
 -- M1-100 C.5: d × (v − 8192) / 8191, the magnitude to the nearest
 abbrev pub offset_in : ℕ → ℕ → ℤ
 offset_in d v =
-    if ltb v 8192 then neg_ℤ (pos (nearest (d * apart v 8192) 8191)) else pos (nearest (d * apart v 8192) 8191)
+    when ltb v 8192 then neg_ℤ (pos (nearest (d * apart v 8192) 8191)) else pos (nearest (d * apart v 8192) 8191)
 
 -- the offset of the low 14 bits of a value
 unfoldable pub pitch_offset : ℕ → MpeSensitivity → ℤ
@@ -38,7 +38,7 @@ placed (negsuc n) k = 0x2000 - k
 
 -- M1-100 C.3: 8192 plus or minus 8192 × |z| / d rounded, halves up; the center where the range is empty
 abbrev pub bend_in : ℕ → ℤ → ℕ
-bend_in d z = if eqb d 0 then 0x2000 else placed z (nearest (8192 * nat_abs z) d)
+bend_in d z = when eqb d 0 then 0x2000 else placed z (nearest (8192 * nat_abs z) d)
 
 unfoldable pub pitch_bend_value : ℤ → MpeSensitivity → ℕ
 pitch_bend_value offset s = bend_in (range_of s) offset

@@ -2,7 +2,7 @@
 #![tactic(auto)]
 
 ghost use Rattle.std.specs.Prelude.{◌≡◌, ◌+◌, ◌*◌, ◌<◌, ◌≤◌, min, nat_abs, pos, ◌-ℤ◌};
-ghost use Rattle.ump.specs.Choice.{if◌then◌else◌};
+ghost use Rattle.ump.specs.Choice.{when◌then◌else◌};
 ghost use Rattle.mpe_pitch.specs.Pitch.{manager_default, member_default, range_of, nearest, pitch_offset, pitch_bend_value};
 ghost use Rattle.mpe_pitch.specs.Remainder.{offset_with_remainder};
 ghost use Rattle.mpe_pitch.specs.Claims.{OffsetNearest, NoTie, OffsetWithin, OffsetRises, Within, IsPair, OnlyPair};
@@ -29,7 +29,7 @@ impl MpeSensitivity {
 
     // The default of a Manager Channel or of Member Channels.
     pub fn default_of(manager: bool) -> MpeSensitivity
-        ensures { result ≡ (if manager then manager_default else member_default) }
+        ensures { result ≡ (when manager then manager_default else member_default) }
     {
         if manager {
             return MpeSensitivity::MANAGER_DEFAULT;

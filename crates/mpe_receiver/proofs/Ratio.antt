@@ -5,7 +5,7 @@ use mathlib.Core.Path.{◌≡◌, refl, ◌∙◌, ap, sym, subst}
 use mathlib.Core.Bool.{Bool, true, false}
 use lib.ListN.{get_or}
 use native.Mathlib.Omega.{arith}
-use Rattle.ump.specs.Choice.{if◌then◌else◌}
+use Rattle.ump.specs.Choice.{when◌then◌else◌}
 use Rattle.ump.specs.Outcome.{given, out_of_range, none_there}
 use Rattle.ump.specs.Packet.{packet_value}
 use Rattle.mpe_layout.specs.declared.MpeZone.{MpeZone}
@@ -33,7 +33,7 @@ managers-bend r channel zone e =
     below-16 Lower = refl
     below-16 Upper = refl
 
-    by : (t : Bool) → role_in (if t then given (role_of r.layout (packet_value channel)) else out_of_range) ≡ Manager zone → role_of r.layout (packet_value channel) ≡ Manager zone
+    by : (t : Bool) → role_in (when t then given (role_of r.layout (packet_value channel)) else out_of_range) ≡ Manager zone → role_of r.layout (packet_value channel) ≡ Manager zone
     by true e = e
     by false e = let n : ◌≡◌ {A = ℕ} 0 1 = cc in absurd (omega arith)
 

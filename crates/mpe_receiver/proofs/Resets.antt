@@ -10,7 +10,7 @@ use native.Mathlib.Omega.{arith}
 use lib.ListN.{length, get_or}
 use lib.Seq.{get_or-set_same, get_or-set_other}
 use lib.Dec.{lit<}
-use Rattle.ump.specs.Choice.{if◌then◌else◌}
+use Rattle.ump.specs.Choice.{when◌then◌else◌}
 use Rattle.ump.specs.Outcome.{Outcome, given, declined, out_of_range}
 use Rattle.ump.specs.Packet.{packet_value}
 use Rattle.ump.specs.Word.{opcode_of, channel_of, first_of, second_of, word_form}
@@ -43,7 +43,7 @@ module _ (hit : ℕ → Bool) (v : ℕ) (l : List ℕ) where
       (get_or-set_other (put_where hit v l n) n i v 0 (λ e. omega arith) ∙ put-past n i (omega arith))
       (put-past n i (omega arith))
 
-  pub put-at : (n i : ℕ) → i < n → n ≤ length l → get_or (put_where hit v l n) i 0 ≡ (if hit i then v else get_or l i 0)
+  pub put-at : (n i : ℕ) → i < n → n ≤ length l → get_or (put_where hit v l n) i 0 ≡ (when hit i then v else get_or l i 0)
   unfolding put_where
   put-at zero i h k = absurd (not-suc-le-zero h)
   put-at (suc n) i h k =
@@ -53,14 +53,14 @@ module _ (hit : ℕ → Bool) (v : ℕ) (l : List ℕ) where
       (λ t. rw (e, t) (get_or-set_same (put_where hit v l n) n v 0 (omega (arith, put-length hit v l n))))
       (λ t. rw (e, t) (put-past n n (omega arith))))
       (λ (b : i < n).
-      of-both (λ (m : List ℕ). get_or m i 0 ≡ (if hit i then v else get_or l i 0)) (hit n)
+      of-both (λ (m : List ℕ). get_or m i 0 ≡ (when hit i then v else get_or l i 0)) (hit n)
       (get_or-set_other (put_where hit v l n) n i v 0 (λ e. omega arith) ∙ put-at n i b (omega arith))
       (put-at n i b (omega arith)))
       (eq-or-lt_of_le (le_of_suc-le-suc h))
 
 module _ (r : MpeReceiver) (z : Zones) (mask channel : ℕ) (w : ReceiverFormed r) where
   at_rest : (v : ℕ) (l : List ℕ) → length l ≡ 16
-      → get_or (put_where (named mask) v l 16) (packet_value channel) 0 ≡ (if named mask channel then v else get_or l (packet_value channel) 0)
+      → get_or (put_where (named mask) v l 16) (packet_value channel) 0 ≡ (when named mask channel then v else get_or l (packet_value channel) 0)
   at_rest v l e =
       let m : named mask (packet_value channel) ≡ named mask channel = rw mod-mod in
       rw m at (put-at (named mask) v l 16 (packet_value channel) (mod-lt channel (lit< tt)) (omega arith))
@@ -136,7 +136,7 @@ layout-rests r l mask channel w is =
 pub mask-rests : MaskRests
 mask-rests = record { of_message = message-rests; of_other_message = other-message-stored; of_layout = layout-rests }
 
-zones-of-chosen : (b : Bool) (x y : MpeReceiver) → zones_of (if b then x else y) ≡ (if b then zones_of x else zones_of y)
+zones-of-chosen : (b : Bool) (x y : MpeReceiver) → zones_of (when b then x else y) ≡ (when b then zones_of x else zones_of y)
 zones-of-chosen true x y = refl
 zones-of-chosen false x y = refl
 

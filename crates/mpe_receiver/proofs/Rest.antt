@@ -4,7 +4,7 @@ use Prim.Native.Nat.{ℕ, suc, ◌+◌}
 use mathlib.Core.Path.{◌≡◌, ap, ◌∙◌}
 use native.Mathlib.Numerals.{add-one}
 use lib.ListN.{set}
-use Rattle.ump.specs.Choice.{if◌then◌else◌}
+use Rattle.ump.specs.Choice.{when◌then◌else◌}
 use Rattle.ump.proofs.Cases.{by-test}
 use Rattle.mpe_reset.specs.Reset.{named}
 use Rattle.mpe_receiver.specs.declared.MpeReceiver.{MpeReceiver}
@@ -14,7 +14,7 @@ use Rattle.mpe_receiver.specs.Receive.{put_where, rest_upto}
 -- one channel put to rest where a mask names it
 abbrev pub rest_at : MpeReceiver → ℕ → ℕ → MpeReceiver
 rest_at r mask n =
-    if named mask n then
+    when named mask n then
     with_bends
     (with_pressures (with_brightnesses r (set r.brightness n 64)) (set r.pressure n 0))
     (set r.pitch_bend n 0x2000)

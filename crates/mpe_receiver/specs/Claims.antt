@@ -1,6 +1,6 @@
 -- What the channels read after a change of layout, and after a message (document 01, "The receiver").
 use Rattle.std.specs.Prelude.{ℕ, ◌+◌, ◌*◌, ◌^◌, ◌≡◌, true, false, ◌≢◌}
-use Rattle.ump.specs.Choice.{if◌then◌else◌}
+use Rattle.ump.specs.Choice.{when◌then◌else◌}
 use Rattle.ump.specs.Outcome.{given}
 use Rattle.ump.specs.Packet.{packet_value}
 use Rattle.ump.specs.Word.{opcode_of, channel_of, first_of, second_of, word_form}
@@ -20,9 +20,9 @@ use Rattle.mpe_receiver.specs.WellFormed.{ReceiverFormed}
 
 -- "Every channel in the mask just returned reads bend 0x2000, pressure 0, brightness 64", and every other as before
 pub record Rested (mask : ℕ) (before after : MpeReceiver) (channel : ℕ) : Type 0 where
-  pub its_bend : bend_at after channel ≡ (if named mask channel then 0x2000 else bend_at before channel)
-  pub its_pressure : pressure_at after channel ≡ (if named mask channel then 0 else pressure_at before channel)
-  pub its_brightness : brightness_at after channel ≡ (if named mask channel then 64 else brightness_at before channel)
+  pub its_bend : bend_at after channel ≡ (when named mask channel then 0x2000 else bend_at before channel)
+  pub its_pressure : pressure_at after channel ≡ (when named mask channel then 0 else pressure_at before channel)
+  pub its_brightness : brightness_at after channel ≡ (when named mask channel then 64 else brightness_at before channel)
 
 -- the controls that a channel reads
 pub record Controls (r : MpeReceiver) (channel bend pressure brightness : ℕ) : Type 0 where

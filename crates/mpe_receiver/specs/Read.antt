@@ -1,6 +1,6 @@
 -- What the receiver shows (M1-100 2.2.4 to 2.2.8, Appendix C.5).
 use Rattle.std.specs.Prelude.{ℕ, Bool, true, false, get_or, ℤ, ◌+ℤ◌}
-use Rattle.ump.specs.Choice.{if◌then◌else◌}
+use Rattle.ump.specs.Choice.{when◌then◌else◌}
 use Rattle.ump.specs.Outcome.{Outcome, given, none_there}
 use Rattle.ump.specs.Packet.{packet_value}
 use Rattle.mpe_layout.specs.declared.MpeZone.{MpeZone}
@@ -22,7 +22,7 @@ use Rattle.mpe_receiver.specs.State.{zones_of}
 
 -- mode 4 is mono, mode 3 poly
 abbrev pub mode_of : MpeReceiver → MpeZone → ℕ
-mode_of r zone = if mono_of (zones_of r) zone then 4 else 3
+mode_of r zone = when mono_of (zones_of r) zone then 4 else 3
 
 abbrev pub sensitivity_of : MpeReceiver → MpeZone → Bool → MpeSensitivity
 sensitivity_of r zone manager = zones.zone_sensitivity (zones_of r) zone manager

@@ -9,7 +9,7 @@ use native.Mathlib.Omega.{arith}
 use lib.Dec.{eqb}
 use lib.Bits.{bit_or, bit_xor, or_block, xor_block}
 use borrow.Author.Tests.{eqb-true}
-use Rattle.ump.specs.Choice.{if◌then◌else◌}
+use Rattle.ump.specs.Choice.{when◌then◌else◌}
 use Rattle.ump.specs.Field.{bit_for, mask_to}
 use Rattle.ump.proofs.Mask.{mask_lt}
 use Rattle.mpe_layout.specs.Layout.{legal, place_of, inside, role_at, role_of}
@@ -79,13 +79,13 @@ below_at f (suc n) h k l =
 
 -- the masks of the zones: of none without members, else of the low or of the high bits, computed for each member count
 abbrev zone_law : (ℕ → ℕ) → (ℕ → ℕ → Bool) → ℕ → Bool
-zone_law bits f n = eqb (if eqb n 0 then 0 else bits n) (mask_to (f n) 16)
+zone_law bits f n = eqb (when eqb n 0 then 0 else bits n) (mask_to (f n) 16)
 
-pub lower-is : (n : ℕ) → n < 16 → (if eqb n 0 then 0 else 65535 / 2 ^ (15 - n)) ≡ mask_to (in_lower n) 16
+pub lower-is : (n : ℕ) → n < 16 → (when eqb n 0 then 0 else 65535 / 2 ^ (15 - n)) ≡ mask_to (in_lower n) 16
 unfolding mask_to in_lower place_of
 lower-is n h = eqb-true _ _ (below_at (zone_law (λ k. 65535 / 2 ^ (15 - k)) in_lower) 16 refl n h)
 
-pub upper_is : (n : ℕ) → n < 16 → (if eqb n 0 then 0 else 65535 * 2 ^ (15 - n) % 2 ^ 16) ≡ mask_to (in_upper n) 16
+pub upper_is : (n : ℕ) → n < 16 → (when eqb n 0 then 0 else 65535 * 2 ^ (15 - n) % 2 ^ 16) ≡ mask_to (in_upper n) 16
 unfolding mask_to in_upper place_of
 upper_is n h = eqb-true _ _ (below_at (zone_law (λ k. 65535 * 2 ^ (15 - k) % 2 ^ 16) in_upper) 16 refl n h)
 

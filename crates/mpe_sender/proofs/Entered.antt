@@ -9,7 +9,7 @@ use native.Mathlib.Omega.{arith}
 use lib.Dec.{ltb}
 use lib.ListN.{replicate}
 use borrow.Author.Tests.{le-ltb, ltb-false}
-use Rattle.ump.specs.Choice.{if◌then◌else◌}
+use Rattle.ump.specs.Choice.{when◌then◌else◌}
 use Rattle.ump.specs.Outcome.{given, out_of_range}
 use Rattle.ump.specs.Word.{channel_of, two_data_word}
 use Rattle.ump.specs.Controller.{rpn_numbered}
@@ -35,7 +35,7 @@ allowed-limits s h =
     let t = tests (ltb 96 s.semitones) (ltb 99 s.cents) h in
     (ltb-false 96 s.semitones t.0, ltb-false 99 s.cents t.1)
   where
-    tests : (a b : Bool) → (if a then false else if b then false else true) ≡ true → (a ≡ false) × (b ≡ false)
+    tests : (a b : Bool) → (when a then false else when b then false else true) ≡ true → (a ≡ false) × (b ≡ false)
     tests true b e = absurd (let z : ◌≡◌ {A = ℕ} 0 1 = cc in omega arith)
     tests false true e = absurd (let z : ◌≡◌ {A = ℕ} 0 1 = cc in omega arith)
     tests false false e = (refl, refl)

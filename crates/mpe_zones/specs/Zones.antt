@@ -1,6 +1,6 @@
 -- The zones of a receiver, and their values when they are announced or set (M1-100 2.2.3 to 2.2.5; document 01, "The receiver").
 use Rattle.std.specs.Prelude.{ℕ, ◌+◌, ◌*◌, ◌/◌, ◌%◌, ◌^◌, Bool, true, false, List, get_or, set, ltb}
-use Rattle.ump.specs.Choice.{if◌then◌else◌}
+use Rattle.ump.specs.Choice.{when◌then◌else◌}
 use Rattle.ump.specs.Outcome.{Outcome, given, declined, out_of_range}
 use Rattle.ump.specs.declared.controller.Rpn.TheVariants.{PitchBendSensitivity}
 use Rattle.parameter_event.specs.declared.Parameter.TheVariants.{Registered}
@@ -80,7 +80,7 @@ activated z zone =
     zone false
 
 abbrev pub activated_if : ℕ → Zones → MpeZone → Zones
-activated_if members z zone = if ltb 0 members then activated z zone else z
+activated_if members z zone = when ltb 0 members then activated z zone else z
 
 -- the layout changes, and each zone with members is activated (M1-100 2.2.2, 2.2.3)
 abbrev pub with_zones_of : Zones → MpeLayout → Zones
@@ -92,11 +92,11 @@ abbrev pub with_announced : Zones → MpeZone → ℕ → Zones
 with_announced z zone members = activated_if members (with_layout z (with_mcm z.layout zone members)) zone
 
 unfoldable pub zones_announced : Zones → MpeZone → ℕ → Zones
-zones_announced z zone members = if ltb 15 members then z else if legal z.layout then with_announced z zone members else z
+zones_announced z zone members = when ltb 15 members then z else when legal z.layout then with_announced z zone members else z
 
 unfoldable pub announced_reply : Zones → MpeZone → ℕ → Outcome ℕ
 announced_reply z zone members =
-    if ltb 15 members then out_of_range else
+    when ltb 15 members then out_of_range else
     of_legal z.layout (given (announcement_mask z.layout (with_mcm z.layout zone members) zone))
 
 -- what the layout held gives; from a new receiver on it is legal, so that nothing declines
@@ -115,4 +115,4 @@ abbrev pub zones_set_reply : Zones → MpeLayout → Outcome ℕ
 zones_set_reply z l = of_legal l (given (layout_resets z.layout l))
 
 abbrev pub zones_set : Zones → MpeLayout → Zones
-zones_set z l = if legal l then with_zones_of z l else z
+zones_set z l = when legal l then with_zones_of z l else z

@@ -1,6 +1,6 @@
 -- The new value of a parameter (MIDI 1.0 p. 12; RP-018). Values have 14 bits: the upper seven are the MSB.
 use Rattle.std.specs.Prelude.{ℕ, ◌+◌, ◌*◌, ◌-◌, ◌/◌, ◌%◌, ◌^◌, Bool, true, false, ltb, eqb}
-use Rattle.ump.specs.Choice.{if◌then◌else◌}
+use Rattle.ump.specs.Choice.{when◌then◌else◌}
 use Rattle.ump.specs.Controller.{rpn_parts}
 use Rattle.parameter_event.specs.declared.Parameter.{Parameter}
 use Rattle.parameter_event.specs.declared.Parameter.TheVariants.{Registered, NonRegistered}
@@ -10,18 +10,18 @@ use Rattle.parameter_event.specs.declared.ParameterEvent.{ParameterEvent}
 
 -- one step of a field of this width, stopping at the ends
 abbrev pub saturating_step : ℕ → Bool → ℕ → ℕ
-saturating_step width true v = if ltb v (2 ^ width - 1) then v + 1 else v
+saturating_step width true v = when ltb v (2 ^ width - 1) then v + 1 else v
 saturating_step width false v = v - 1
 
 -- RPN 0 (RP-018): cents, and from cents 99 or more up to the next semitone; unchanged at semitone 127, and down from 0/0
 unfoldable pub step_cents : ℕ → ℕ → Bool → ℕ
 step_cents semitones cents true =
-    if ltb cents 99 then semitones * 2 ^ 7 + cents + 1 else
-    if ltb semitones 127 then (semitones + 1) * 2 ^ 7 else
+    when ltb cents 99 then semitones * 2 ^ 7 + cents + 1 else
+    when ltb semitones 127 then (semitones + 1) * 2 ^ 7 else
     semitones * 2 ^ 7 + cents
 step_cents semitones cents false =
-    if ltb 0 cents then semitones * 2 ^ 7 + cents - 1 else
-    if ltb 0 semitones then (semitones - 1) * 2 ^ 7 + 99 else
+    when ltb 0 cents then semitones * 2 ^ 7 + cents - 1 else
+    when ltb 0 semitones then (semitones - 1) * 2 ^ 7 + 99 else
     semitones * 2 ^ 7 + cents
 
 -- RPN 2, 3 and 4 (RP-018): the upper half
@@ -31,10 +31,10 @@ step_upper msb lsb up = saturating_step 7 up msb * 2 ^ 7 + lsb
 -- by the number of a registered parameter
 unfoldable pub step_numbered : ℕ → ℕ → Bool → ℕ → ℕ
 step_numbered m l up v =
-    if eqb m 0 then
-    (if eqb l 0 then step_cents (v / 2 ^ 7) (v % 2 ^ 7) up else
-    if ltb l 2 then saturating_step 14 up v else
-    if ltb 4 l then saturating_step 14 up v else
+    when eqb m 0 then
+    (when eqb l 0 then step_cents (v / 2 ^ 7) (v % 2 ^ 7) up else
+    when ltb l 2 then saturating_step 14 up v else
+    when ltb 4 l then saturating_step 14 up v else
     step_upper (v / 2 ^ 7) (v % 2 ^ 7) up)
     else saturating_step 14 up v
 

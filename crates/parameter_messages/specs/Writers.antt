@@ -1,6 +1,6 @@
 -- The messages that select a parameter and change it (MIDI 1.0 p. 17; RP-018), with Group 0.
 use Rattle.std.specs.Prelude.{ℕ, ◌/◌, ◌%◌, List, [], ◌∷◌, ltb}
-use Rattle.ump.specs.Choice.{if◌then◌else◌}
+use Rattle.ump.specs.Choice.{when◌then◌else◌}
 use Rattle.ump.specs.Outcome.{Outcome, out_of_range, all_of, followed_by}
 use Rattle.ump.specs.Word.{control_change}
 use Rattle.ump.specs.Controller.{rpn_given}
@@ -33,5 +33,5 @@ change_message channel Decrement = control_change channel 97 0
 -- the number, then the upper and the lower half of the value by 6 and 38
 unfoldable pub value_messages : ℕ → Parameter → ℕ → Outcome (List ℕ)
 value_messages channel p v =
-    if ltb 0x3FFF v then out_of_range else
+    when ltb 0x3FFF v then out_of_range else
     followed_by (select_messages channel p) (all_of (control_change channel 6 (v / 128) ∷ control_change channel 38 (v % 128) ∷ []))

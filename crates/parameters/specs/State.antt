@@ -1,6 +1,6 @@
 -- The parameter receiver of one channel (MIDI 1.0 pp. 17, 18; RP-015; document 01, "The message reaches its channel's parameters").
 use Rattle.std.specs.Prelude.{ℕ, Bool, true, false, not, ltb, eqb}
-use Rattle.ump.specs.Choice.{if◌then◌else◌}
+use Rattle.ump.specs.Choice.{when◌then◌else◌}
 use Rattle.ump.specs.Outcome.{Outcome, given, out_of_range}
 use Rattle.ump.specs.Word.{opcode_of, first_of, second_of, word_form}
 use Rattle.ump.specs.Controller.{rpn_of}
@@ -43,18 +43,18 @@ with_nrpn s n =
 -- both halves received, and not the null number
 abbrev pub selects : ℕ → ℕ → Bool
 selects m l =
-    if ltb 0x7F m then false else if ltb 0x7F l then false else if eqb m 0x7F then not (eqb l 0x7F) else true
+    when ltb 0x7F m then false else when ltb 0x7F l then false else when eqb m 0x7F then not (eqb l 0x7F) else true
 
 abbrev pub selected_rpn : Bool → ℕ → ℕ → Selection
-selected_rpn on m l = if on then (if selects m l then Selected (Registered (rpn_of m l)) else Nothing) else Nothing
+selected_rpn on m l = when on then (when selects m l then Selected (Registered (rpn_of m l)) else Nothing) else Nothing
 
 abbrev pub selected_nrpn : Bool → ℕ → ℕ → Selection
-selected_nrpn on m l = if on then (if selects m l then Selected (NonRegistered m l) else Nothing) else Nothing
+selected_nrpn on m l = when on then (when selects m l then Selected (NonRegistered m l) else Nothing) else Nothing
 
 -- the parameter that a data entry acts on: of the kind stored last, where its reception is on
 unfoldable pub selection_of : ParameterState → Selection
 selection_of s =
-    if s.nrpn_last then selected_nrpn s.nrpn_on s.nrpn.msb s.nrpn.lsb
+    when s.nrpn_last then selected_nrpn s.nrpn_on s.nrpn.msb s.nrpn.lsb
     else selected_rpn s.rpn_on s.rpn.msb s.rpn.lsb
 
 -- RP-015
@@ -71,16 +71,16 @@ nulled s =
 -- p. 17, rule 3: going on, it waits again for both halves
 abbrev pub rpn_switched : ParameterState → Bool → ParameterState
 rpn_switched s on =
-    if on then
-    (if s.rpn_on then s else
+    when on then
+    (when s.rpn_on then s else
     record { rpn = missing; nrpn = s.nrpn; nrpn_last = s.nrpn_last; rpn_on = true; nrpn_on = s.nrpn_on })
     else
     record { rpn = s.rpn; nrpn = s.nrpn; nrpn_last = s.nrpn_last; rpn_on = false; nrpn_on = s.nrpn_on }
 
 abbrev pub nrpn_switched : ParameterState → Bool → ParameterState
 nrpn_switched s on =
-    if on then
-    (if s.nrpn_on then s else
+    when on then
+    (when s.nrpn_on then s else
     record { rpn = s.rpn; nrpn = missing; nrpn_last = s.nrpn_last; rpn_on = s.rpn_on; nrpn_on = true })
     else
     record { rpn = s.rpn; nrpn = s.nrpn; nrpn_last = s.nrpn_last; rpn_on = s.rpn_on; nrpn_on = false }
@@ -99,25 +99,25 @@ entered s change = parameter_update s (event_for (selection_of s) change)
 -- 101 and 100 store the halves of an RPN, 99 and 98 those of an NRPN, and 121 makes both numbers null
 unfoldable pub number_stored : ParameterState → ℕ → ℕ → ParameterState
 number_stored s n v =
-    if eqb n 101 then with_rpn s (number v s.rpn.lsb) else
-    if eqb n 100 then with_rpn s (number s.rpn.msb v) else
-    if eqb n 99 then with_nrpn s (number v s.nrpn.lsb) else
-    if eqb n 98 then with_nrpn s (number s.nrpn.msb v) else
-    if eqb n 121 then nulled s else
+    when eqb n 101 then with_rpn s (number v s.rpn.lsb) else
+    when eqb n 100 then with_rpn s (number s.rpn.msb v) else
+    when eqb n 99 then with_nrpn s (number v s.nrpn.lsb) else
+    when eqb n 98 then with_nrpn s (number s.nrpn.msb v) else
+    when eqb n 121 then nulled s else
     s
 
 -- a control change: 6 and 38 are data entries, 96 and 97 steps
 unfoldable pub controlled : ParameterState → ℕ → ℕ → ParameterUpdate
 controlled s n v =
-    if eqb n 6 then entered s (DataEntryMsb v) else
-    if eqb n 38 then entered s (DataEntryLsb v) else
-    if eqb n 96 then entered s Increment else
-    if eqb n 97 then entered s Decrement else
+    when eqb n 6 then entered s (DataEntryMsb v) else
+    when eqb n 38 then entered s (DataEntryLsb v) else
+    when eqb n 96 then entered s Increment else
+    when eqb n 97 then entered s Decrement else
     parameter_update (number_stored s n v) NoEvent
 
 -- only control changes act (document 01)
 abbrev pub update_by_fields : ParameterState → ℕ → ℕ → ℕ → ParameterUpdate
-update_by_fields s opcode a b = if eqb opcode 0xB then controlled s a b else parameter_update s NoEvent
+update_by_fields s opcode a b = when eqb opcode 0xB then controlled s a b else parameter_update s NoEvent
 
 abbrev pub update_by_word : ParameterState → ℕ → ParameterUpdate
 update_by_word s w = update_by_fields s (opcode_of w) (first_of w) (second_of w)
@@ -128,7 +128,7 @@ parameter_reply_read (reply.Received e) = given e
 parameter_reply_read reply.OutOfRange = out_of_range
 
 abbrev pub parameter_reply : ParameterState → ℕ → Outcome MaybeEvent
-parameter_reply s w = if word_form w then given (update_by_word s w).event else out_of_range
+parameter_reply s w = when word_form w then given (update_by_word s w).event else out_of_range
 
 abbrev pub parameter_after : ParameterState → ℕ → ParameterState
-parameter_after s w = if word_form w then (update_by_word s w).state else s
+parameter_after s w = when word_form w then (update_by_word s w).state else s

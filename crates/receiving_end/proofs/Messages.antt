@@ -7,7 +7,7 @@ use mathlib.Core.List.{[], ◌∷◌}
 use mathlib.Core.Logic.{◌⊎◌}
 use native.Mathlib.Omega.{arith}
 use lib.Dec.{eqb}
-use Rattle.ump.specs.Choice.{if◌then◌else◌}
+use Rattle.ump.specs.Choice.{when◌then◌else◌}
 use Rattle.ump.proofs.Auto.{auto}
 use Rattle.byte_reader.specs.declared.ByteClass.TheVariants as class
 use Rattle.byte_reader.specs.declared.Read.TheVariants as read
@@ -50,7 +50,7 @@ module _ (e : End) (s a : ℕ) (h : 0xC0 ≤ s) (g : s < 0xE0) (ha : a < 0x80) w
   short-read = ap (λ x. step_end x a) (started e s (omega arith) (omega arith)) ∙ whole
 
 -- F8 to FF
-system-class : (b : ℕ) → 0xF8 ≤ b → class_of_byte b ≡ (if eqb b 0xF9 then class.Undefined else if eqb b 0xFD then class.Undefined else class.RealTime)
+system-class : (b : ℕ) → 0xF8 ≤ b → class_of_byte b ≡ (when eqb b 0xF9 then class.Undefined else when eqb b 0xFD then class.Undefined else class.RealTime)
 unfolding class_of_byte
 system-class b h =
     let a : 0x80 ≤ b = omega arith in
@@ -59,8 +59,8 @@ system-class b h =
 
 system : (e : End) (b : ℕ) (t u : Bool) →
     (answer_step e
-    (class_step e.reader (if t then class.Undefined else if u then class.Undefined else class.RealTime) b).reader
-    (class_step e.reader (if t then class.Undefined else if u then class.Undefined else class.RealTime) b).read
+    (class_step e.reader (when t then class.Undefined else when u then class.Undefined else class.RealTime) b).reader
+    (class_step e.reader (when t then class.Undefined else when u then class.Undefined else class.RealTime) b).read
     ).end
     ≡ e
 system e b true u = refl

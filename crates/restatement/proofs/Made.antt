@@ -9,7 +9,7 @@ use native.Mathlib.Omega.{arith}
 use lib.Dec.{eqb}
 use lib.ListN.{length, drop}
 use borrow.Author.Tests.{le-ltb, eqb-false}
-use Rattle.ump.specs.Choice.{if◌then◌else◌}
+use Rattle.ump.specs.Choice.{when◌then◌else◌}
 use Rattle.ump.specs.Outcome.{given, all_of}
 use Rattle.ump.specs.Packet.{packet_value}
 use Rattle.ump.specs.Word.{control_change, two_data_word, one_data_word, bend_word}
@@ -51,7 +51,7 @@ announcement-made zone members h = rw (le-ltb 15 members h)
 
 mode-on : (s : Settings) (zone : MpeZone) (mono : Bool) → legal s.layout ≡ true → 0 < members_in s zone
     → mode_on (lowest_of s.layout zone) (members_in s zone) mono
-    ≡ given (if mono then control_word (lowest_of s.layout zone) 126 (members_in s zone) else control_word (lowest_of s.layout zone) 127 0)
+    ≡ given (when mono then control_word (lowest_of s.layout zone) 126 (members_in s zone) else control_word (lowest_of s.layout zone) 127 0)
 unfolding mode_on
 mode-on s zone true h some =
     control-made (lowest_of s.layout zone) 126 (members_in s zone) (lowest-lt s.layout zone h some) (omega arith) (omega (arith, members-le s.layout zone h))

@@ -10,7 +10,7 @@ use lib.Dec.{ltb}
 use borrow.Author.Tests.{ltb-false}
 use types.Run.{OneOf}
 use denote.Enum.Declared.{tag_of}
-use Rattle.ump.specs.Choice.{if◌then◌else◌}
+use Rattle.ump.specs.Choice.{when◌then◌else◌}
 use Rattle.ump.specs.Outcome.{Outcome, given, out_of_range, too_small}
 use Rattle.zone_sender.specs.declared.Written.{Written}
 use Rattle.zone_sender.specs.declared.Written.TheVariants as written
@@ -47,7 +47,7 @@ counted s needed got n e =
     let t = tests (allowed s) (ltb got needed) e in
     record { is-allowed = t.0; is-needed = t.2; fits = ltb-false got needed t.1 }
   where
-    tests : (a b : Bool) → given n ≡ (if a then (if b then too_small needed got else given needed) else out_of_range) → (a ≡ true) × (b ≡ false) × (n ≡ needed)
+    tests : (a b : Bool) → given n ≡ (when a then (when b then too_small needed got else given needed) else out_of_range) → (a ≡ true) × (b ≡ false) × (n ≡ needed)
     tests true true e = absurd (let z : ◌≡◌ {A = ℕ} 0 1 = cc in omega arith)
     tests true false e = (refl, refl, cc)
     tests false b e = absurd (let z : ◌≡◌ {A = ℕ} 0 1 = cc in omega arith)

@@ -9,7 +9,7 @@ use native.Mathlib.Omega.{arith}
 use lib.Dec.{leb}
 use lib.Pow.{pow_pos, pow-add, pow-lt, shl-shr, ones_lt, le_ones, ones_split, high}
 use borrow.Author.Tests.{eq-eqb, ne_eqb, le-leb, lt-leb, leb-true, leb-false}
-use Rattle.ump.specs.Choice.{if◌then◌else◌}
+use Rattle.ump.specs.Choice.{when◌then◌else◌}
 use Rattle.ump.specs.Outcome.{given, out_of_range}
 use Rattle.ump.specs.Field.{field}
 use Rattle.ump.proofs.Cases.{by-test, both}
@@ -22,7 +22,7 @@ use Rattle.scale.proofs.Repeat.{bits, only}
 use Rattle.scale.proofs.Widen.{by-widening, widened-lt, widened-back, widened-rises, zero-extended-lt, upscaled-given}
 
 -- what is given where a test holds
-gave : (b : Bool) (y x : ℕ) → (if b then given y else out_of_range) ≡ given x → (b ≡ true) × (x ≡ y)
+gave : (b : Bool) (y x : ℕ) → (when b then given y else out_of_range) ≡ given x → (b ≡ true) × (x ≡ y)
 gave true y x e = (refl, cc)
 gave false y x e =
     let z : ◌≡◌ {A = ℕ} 0 1 = cc in

@@ -1,6 +1,6 @@
 -- Values scaled between resolutions (M2-115): from s bits to d.
 use Rattle.std.specs.Prelude.{ℕ, zero, suc, ◌+◌, ◌-◌, ◌*◌, ◌/◌, ◌^◌, min, Bool, ◌&&◌, ltb, leb, eqb}
-use Rattle.ump.specs.Choice.{if◌then◌else◌}
+use Rattle.ump.specs.Choice.{when◌then◌else◌}
 use Rattle.ump.specs.Outcome.{Outcome, given, out_of_range}
 use Rattle.ump.specs.Field.{field}
 use Rattle.scale.specs.declared.Scaled.{Scaled}
@@ -27,8 +27,8 @@ repeated s v (suc k) = repeated s v k * 2 + field (s - 2) 1 (repeated s v k)
 -- 3.3, Min-Center-Max: 1 bit to the lowest or the highest; up to the center the value is shifted, above it its bits are repeated
 unfoldable pub widened : ℕ → ℕ → ℕ → ℕ
 widened s d v =
-    if eqb s 1 then (if eqb v 0 then 0 else 2 ^ d - 1) else
-    if leb v (2 ^ (s - 1)) then v * 2 ^ (d - s) else
+    when eqb s 1 then (when eqb v 0 then 0 else 2 ^ d - 1) else
+    when leb v (2 ^ (s - 1)) then v * 2 ^ (d - s) else
     repeated s v (d - s)
 
 -- 3.4: the low bits are cut off
@@ -45,14 +45,14 @@ rounded s d v = min ((v + 2 ^ (s - d - 1)) / 2 ^ (s - d)) (2 ^ d - 1)
 
 -- what each call answers
 unfoldable pub upscaled : ℕ → ℕ → ℕ → Outcome ℕ
-upscaled v s d = if widens s d v then given (widened s d v) else out_of_range
+upscaled v s d = when widens s d v then given (widened s d v) else out_of_range
 
 unfoldable pub downscaled : ℕ → ℕ → ℕ → Outcome ℕ
-downscaled v s d = if narrows s d v then given (narrowed s d v) else out_of_range
+downscaled v s d = when narrows s d v then given (narrowed s d v) else out_of_range
 
 -- 4.3: not for 1 bit
 unfoldable pub zero_upscaled : ℕ → ℕ → ℕ → Outcome ℕ
-zero_upscaled v s d = if leb 2 s && widens s d v then given (zero_extended s d v) else out_of_range
+zero_upscaled v s d = when leb 2 s && widens s d v then given (zero_extended s d v) else out_of_range
 
 unfoldable pub zero_downscaled : ℕ → ℕ → ℕ → Outcome ℕ
-zero_downscaled v s d = if narrows s d v then given (rounded s d v) else out_of_range
+zero_downscaled v s d = when narrows s d v then given (rounded s d v) else out_of_range

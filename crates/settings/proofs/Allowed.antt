@@ -8,7 +8,7 @@ use native.Mathlib.Nat.{eq-or-lt_of_le, le_of_suc-le-suc, not-suc-le-zero}
 use native.Mathlib.Omega.{arith}
 use lib.Dec.{ltb, eqb}
 use borrow.Author.Tests.{ltb-false, eqb-true, ne_eqb}
-use Rattle.ump.specs.Choice.{if◌then◌else◌}
+use Rattle.ump.specs.Choice.{when◌then◌else◌}
 use Rattle.ump.specs.Outcome.{given, out_of_range}
 use Rattle.mpe_layout.specs.Layout.{legal, of_legal}
 use Rattle.mpe_layout.specs.declared.MpeZone.{MpeZone}
@@ -20,17 +20,17 @@ use Rattle.settings.specs.declared.ZoneSettings.{ZoneSettings}
 use Rattle.settings.specs.declared.Settings.{Settings}
 
 -- a test that must hold did, and what follows it
-pub both : (b x : Bool) → (if b then x else false) ≡ true → (b ≡ true) × (x ≡ true)
+pub both : (b x : Bool) → (when b then x else false) ≡ true → (b ≡ true) × (x ≡ true)
 both true x h = (refl, h)
 both false x h = absurd (let z : ◌≡◌ {A = ℕ} 0 1 = cc in omega arith)
 
 -- a refusing test did not refuse
-pub passed : (b x : Bool) → (if b then false else x) ≡ true → (b ≡ false) × (x ≡ true)
+pub passed : (b x : Bool) → (when b then false else x) ≡ true → (b ≡ false) × (x ≡ true)
 passed true x h = absurd (let z : ◌≡◌ {A = ℕ} 0 1 = cc in omega arith)
 passed false x h = (refl, h)
 
 -- an accepting test accepted, or what follows it
-either : (b x : Bool) → (if b then true else x) ≡ true → (b ≡ true) ⊎ (x ≡ true)
+either : (b x : Bool) → (when b then true else x) ≡ true → (b ≡ true) ⊎ (x ≡ true)
 either true x h = inl refl
 either false x h = inr h
 
@@ -85,14 +85,14 @@ parts s h =
 pub made-legal : (l : MpeLayout) {m : MpeLayout} → given m ≡ of_legal l (given l) → (legal l ≡ true) × (m ≡ l)
 made-legal l e = cases l (legal l) e
   where
-    cases : (l : MpeLayout) {m : MpeLayout} (b : Bool) → given m ≡ (if b then given l else out_of_range) → (b ≡ true) × (m ≡ l)
+    cases : (l : MpeLayout) {m : MpeLayout} (b : Bool) → given m ≡ (when b then given l else out_of_range) → (b ≡ true) × (m ≡ l)
     cases l true e = (refl, cc)
     cases l false e = absurd (let z : ◌≡◌ {A = ℕ} 0 1 = cc in omega arith)
 
 pub made_none : (l : MpeLayout) → out_of_range ≡ of_legal l (given l) → legal l ≡ false
 made_none l e = cases l (legal l) e
   where
-    cases : (l : MpeLayout) (b : Bool) → out_of_range ≡ (if b then given l else out_of_range) → b ≡ false
+    cases : (l : MpeLayout) (b : Bool) → out_of_range ≡ (when b then given l else out_of_range) → b ≡ false
     cases l true e = absurd (let z : ◌≡◌ {A = ℕ} 0 1 = cc in omega arith)
     cases l false e = refl
 

@@ -9,7 +9,7 @@ use native.Mathlib.Omega.{arith}
 use lib.Dec.{eqb}
 use lib.ListN.{get_or-replicate}
 use borrow.Author.Tests.{eqb-false}
-use Rattle.ump.specs.Choice.{if◌then◌else◌}
+use Rattle.ump.specs.Choice.{when◌then◌else◌}
 use Rattle.ump.proofs.Cases.{by-test}
 use Rattle.parameters.specs.State.{new_state}
 use Rattle.mpe_layout.specs.declared.MpeZone.{MpeZone}
@@ -65,10 +65,10 @@ module _ (s : Settings) (h : allowed s ≡ true) where
   sensitivity-shown Upper false = refl
 
   abbrev mode_for : Bool → ℕ
-  mode_for mono = if mono then 4 else 3
+  mode_for mono = when mono then 4 else 3
 
   -- a mode is 3 or 4
-  mode-shown : (zone : MpeZone) → mode_for (if eqb (members_in s zone) 0 then false else is_mono (zone_of s zone)) ≡ shown_mode s zone
+  mode-shown : (zone : MpeZone) → mode_for (when eqb (members_in s zone) 0 then false else is_mono (zone_of s zone)) ≡ shown_mode s zone
   mode-shown zone =
       by-test (eqb (members_in s zone) 0)
       (λ t. rw t)

@@ -8,7 +8,7 @@ use native.Mathlib.Omega.{arith}
 use lib.Dec.{eqb}
 use lib.ListN.{get_or, length}
 use lib.Seq.{ext_get_or}
-use Rattle.ump.specs.Choice.{if◌then◌else◌}
+use Rattle.ump.specs.Choice.{when◌then◌else◌}
 use Rattle.ump.proofs.Cases.{by-test}
 use Rattle.mpe_layout.specs.declared.MpeZone.{MpeZone}
 use Rattle.mpe_layout.specs.declared.MpeZone.TheVariants.{Lower, Upper}
@@ -33,7 +33,7 @@ use Rattle.settings.proofs.Settle.{Settling, settled-stage, Controlled, controll
 
 -- the zones that the settings determine
 abbrev shown_mono : Settings → MpeZone → Bool
-shown_mono s zone = if eqb (members_in s zone) 0 then false else is_mono (zone_of s zone)
+shown_mono s zone = when eqb (members_in s zone) 0 then false else is_mono (zone_of s zone)
 
 abbrev pub shown_zones : Settings → Zones
 shown_zones s =
@@ -53,18 +53,18 @@ moded-layout s zone z =
 
 -- by which zones are empty
 abbrev held_by : Bool → Settings → MpeZone → Bool → MpeSensitivity
-held_by empty s zone manager = if empty then default_for manager else sensitivity_for (zone_of s zone) manager
+held_by empty s zone manager = when empty then default_for manager else sensitivity_for (zone_of s zone) manager
 
 abbrev sensed_by : Bool → Settings → MpeZone → Zones → Zones
 sensed_by empty s zone z =
-    if empty then z else sensed (sensed z zone true (zone_of s zone).manager) zone false (zone_of s zone).member
+    when empty then z else sensed (sensed z zone true (zone_of s zone).manager) zone false (zone_of s zone).member
 
 abbrev moded_by : Bool → Settings → MpeZone → Zones → Zones
-moded_by empty s zone z = if empty then z else with_mono z zone (is_mono (zone_of s zone))
+moded_by empty s zone z = when empty then z else with_mono z zone (is_mono (zone_of s zone))
 
 zones-by : (s : Settings) (t u : Bool)
     → moded_by u s Upper (moded_by t s Lower (sensed_by u s Upper (sensed_by t s Lower (default_zones s.layout))))
-    ≡ zones_at s.layout (if t then false else is_mono s.lower) (if u then false else is_mono s.upper)
+    ≡ zones_at s.layout (when t then false else is_mono s.lower) (when u then false else is_mono s.upper)
     (slots (held_by t s Lower true) (held_by t s Lower false) (held_by u s Upper true) (held_by u s Upper false))
 zones-by s true true = refl
 zones-by s true false = refl

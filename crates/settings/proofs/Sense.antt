@@ -10,7 +10,7 @@ use lib.Dec.{eqb, lit<}
 use lib.ListN.{get_or, set, length, length-set}
 use lib.Seq.{get_or-set_same, get_or-set_other, set-set, set_comm}
 use borrow.Author.Tests.{ne_eqb, eq-eqb, eqb-false}
-use Rattle.ump.specs.Choice.{if◌then◌else◌}
+use Rattle.ump.specs.Choice.{when◌then◌else◌}
 use Rattle.ump.specs.Controller.{rpn_of, rpn_numbered}
 use Rattle.ump.proofs.Cases.{by-test}
 use Rattle.parameter_event.specs.declared.Parameter.TheVariants.{Registered}
@@ -255,7 +255,7 @@ module _ (z : Zones) (zone : MpeZone) (a b : MpeSensitivity) (h : legal z.layout
 -- C. the sensitivities of a zone, if it has members
 abbrev pub sensed_for : Settings → MpeZone → Zones → Zones
 sensed_for s zone z =
-    if eqb (members_in s zone) 0 then z else sensed (sensed z zone true (zone_of s zone).manager) zone false (zone_of s zone).member
+    when eqb (members_in s zone) 0 then z else sensed (sensed z zone true (zone_of s zone).manager) zone false (zone_of s zone).member
 
 pub sensitivities-stage : {z : Zones} (s : Settings) (zone : MpeZone) (e : End) → allowed s ≡ true → z.layout ≡ s.layout → Stage z e
     → Stage (sensed_for s zone z) (received-all e (sensitivities s zone))
@@ -332,7 +332,7 @@ mode-stage {z} e zone mono v h some hv s =
 
 -- D. the mode of a zone, if it has members
 abbrev pub moded_for : Settings → MpeZone → Zones → Zones
-moded_for s zone z = if eqb (members_in s zone) 0 then z else with_mono z zone (is_mono (zone_of s zone))
+moded_for s zone z = when eqb (members_in s zone) 0 then z else with_mono z zone (is_mono (zone_of s zone))
 
 pub modes-stage : {z : Zones} (s : Settings) (zone : MpeZone) (e : End) → allowed s ≡ true → z.layout ≡ s.layout → Stage z e
     → Stage (moded_for s zone z) (received-all e (modes s zone))

@@ -1,6 +1,6 @@
 -- The messages that restate settings, as words and as bytes (document 01, "Restatement").
 use Rattle.std.specs.Prelude.{ℕ, zero, suc, ◌+◌, ◌*◌, ◌-◌, ◌/◌, ◌%◌, ◌^◌, true, ◌≡◌, List, [], ◌∷◌, ◌++◌, ltb, eqb, length}
-use Rattle.ump.specs.Choice.{if◌then◌else◌}
+use Rattle.ump.specs.Choice.{when◌then◌else◌}
 use Rattle.ump.specs.Outcome.{Outcome, given, declined, out_of_range, too_small}
 use Rattle.ump.specs.Word.{opcode_of, channel_of, first_of, second_of, one_data, word_of}
 use Rattle.mpe_layout.specs.declared.MpeZone.{MpeZone}
@@ -35,14 +35,14 @@ announcements l =
 -- C. the sensitivities of a zone (M1-100 2.2.5), if it has members
 unfoldable pub sensitivities : Settings → MpeZone → List ℕ
 sensitivities s zone =
-    if eqb (members_in s zone) 0 then [] else
+    when eqb (members_in s zone) 0 then [] else
     zone_words s.layout zone (zone_of s zone).manager (zone_of s zone).member
 
 -- D. the mode message of a zone on its lowest member (M1-100 2.2.4.3), if it has members
 unfoldable pub modes : Settings → MpeZone → List ℕ
 modes s zone =
-    if eqb (members_in s zone) 0 then [] else
-    (if is_mono (zone_of s zone) then control_word (lowest_of s.layout zone) 126 (members_in s zone)
+    when eqb (members_in s zone) 0 then [] else
+    (when is_mono (zone_of s zone) then control_word (lowest_of s.layout zone) 126 (members_in s zone)
     else control_word (lowest_of s.layout zone) 127 0)
     ∷ []
 
@@ -82,7 +82,7 @@ messages s =
 -- a message as bytes: its own status byte, and one data byte or two (MIDI 1.0, Table I)
 abbrev pub bytes_of : ℕ → List ℕ
 bytes_of w =
-    if one_data (opcode_of w) then (opcode_of w * 16 + channel_of w) ∷ first_of w ∷ []
+    when one_data (opcode_of w) then (opcode_of w * 16 + channel_of w) ∷ first_of w ∷ []
     else (opcode_of w * 16 + channel_of w) ∷ first_of w ∷ second_of w ∷ []
 
 unfoldable pub bytes : List ℕ → List ℕ
@@ -95,7 +95,7 @@ restatement s = bytes (messages s)
 
 -- z active zones and m members in all: 108 + 5z + 4m messages (document 02, 2026-01)
 abbrev pub one_if_any : ℕ → ℕ
-one_if_any members = if eqb members 0 then 0 else 1
+one_if_any members = when eqb members 0 then 0 else 1
 
 unfoldable pub message_count : MpeLayout → ℕ
 message_count l = 108 + 5 * (one_if_any l.lower + one_if_any l.upper) + 4 * (l.lower + l.upper)
@@ -112,7 +112,7 @@ CountsHold =
 -- what a writer answers: settings out of range, then a buffer that is too small, else how many elements it wrote
 unfoldable pub restated_reply : Settings → ℕ → ℕ → Outcome ℕ
 restated_reply s needed got =
-    if allowed s then (if ltb got needed then too_small needed got else given needed) else out_of_range
+    when allowed s then (when ltb got needed then too_small needed got else given needed) else out_of_range
 
 -- the words that were given, and how many were written
 abbrev pub words_in : Outcome (List ℕ) → List ℕ

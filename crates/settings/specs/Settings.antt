@@ -1,6 +1,6 @@
 -- Settings, and their limits (document 01, "Restatement").
 use Rattle.std.specs.Prelude.{ℕ, zero, suc, Bool, true, false, ltb, eqb, get_or, replicate}
-use Rattle.ump.specs.Choice.{if◌then◌else◌}
+use Rattle.ump.specs.Choice.{when◌then◌else◌}
 use Rattle.mpe_layout.specs.declared.MpeZone.{MpeZone}
 use Rattle.mpe_layout.specs.declared.MpeZone.TheVariants.{Lower, Upper}
 use Rattle.mpe_layout.specs.Layout.{layout_of, legal, members_of}
@@ -48,11 +48,11 @@ default_for false = member_default
 
 abbrev pub shown_sensitivity : Settings → MpeZone → Bool → MpeSensitivity
 shown_sensitivity s zone manager =
-    if eqb (members_in s zone) 0 then default_for manager else sensitivity_for (zone_of s zone) manager
+    when eqb (members_in s zone) 0 then default_for manager else sensitivity_for (zone_of s zone) manager
 
 -- the mode that a zone shows: the settings', or in an empty zone 3
 abbrev pub shown_mode : Settings → MpeZone → ℕ
-shown_mode s zone = if eqb (members_in s zone) 0 then 3 else (zone_of s zone).mode
+shown_mode s zone = when eqb (members_in s zone) 0 then 3 else (zone_of s zone).mode
 
 -- what is set for a channel below 16
 abbrev pub bend_on : Settings → ℕ → ℕ
@@ -67,22 +67,22 @@ brightness_on s k = get_or s.brightness k 0
 -- sensitivities that may be sent (M1-100 2.2.5; document 02, 2026-01), and mode 3 or 4; the fields of an empty zone are not read
 unfoldable pub zone_allowed : ℕ → ZoneSettings → Bool
 zone_allowed members z =
-    if eqb members 0 then true else
-    if sensitivity_allowed z.manager then
-    (if sensitivity_allowed z.member then (if eqb z.mode 3 then true else eqb z.mode 4) else false)
+    when eqb members 0 then true else
+    when sensitivity_allowed z.manager then
+    (when sensitivity_allowed z.member then (when eqb z.mode 3 then true else eqb z.mode 4) else false)
     else false
 
 -- bend 0 to 0x3FFF, pressure and brightness 0 to 127
 unfoldable pub channel_allowed : ℕ → ℕ → ℕ → Bool
 channel_allowed bend pressure brightness =
-    if ltb 0x3FFF bend then false else
-    if ltb 127 pressure then false else
-    if ltb 127 brightness then false else
+    when ltb 0x3FFF bend then false else
+    when ltb 127 pressure then false else
+    when ltb 127 brightness then false else
     true
 
 -- each channel below n
 abbrev pub and_channel : Bool → ℕ → ℕ → ℕ → Bool
-and_channel below bend pressure brightness = if below then channel_allowed bend pressure brightness else false
+and_channel below bend pressure brightness = when below then channel_allowed bend pressure brightness else false
 
 unfoldable pub channels_allowed : Settings → ℕ → Bool
 channels_allowed s zero = true
@@ -91,8 +91,8 @@ channels_allowed s (suc n) = and_channel (channels_allowed s n) (bend_on s n) (p
 -- a legal layout, and every field that is read inside its limits
 unfoldable pub allowed : Settings → Bool
 allowed s =
-    if legal s.layout then
-    (if zone_allowed (members_in s Lower) s.lower then
-    (if zone_allowed (members_in s Upper) s.upper then channels_allowed s 16 else false)
+    when legal s.layout then
+    (when zone_allowed (members_in s Lower) s.lower then
+    (when zone_allowed (members_in s Upper) s.upper then channels_allowed s 16 else false)
     else false)
     else false

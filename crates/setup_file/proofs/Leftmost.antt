@@ -10,7 +10,7 @@ use lib.Dec.{ltb}
 use lib.ListN.{length, take, drop, length-append}
 use lib.Seq.{take-append-le, drop-append-le}
 use borrow.Author.Tests.{ltb-false, lt-ltb, le-ltb}
-use Rattle.ump.specs.Choice.{if◌then◌else◌}
+use Rattle.ump.specs.Choice.{when◌then◌else◌}
 use Rattle.ump.specs.Outcome.{Outcome, given, out_of_range}
 use Rattle.ump.proofs.Cases.{by-test}
 use Rattle.mpe_layout.specs.Layout.{legal}
@@ -59,7 +59,7 @@ module _ (section : Section) (l more : List ℕ) (h : entry_size section ≤ len
 
 -- what the tests of a whole entry come to
 abbrev tested : Bool → Bool → Bool → ℕ → Outcome ℕ
-tested b c d n = if b then (if c then out_of_order else if d then out_of_order else given n) else out_of_range
+tested b c d n = when b then (when c then out_of_order else when d then out_of_order else given n) else out_of_range
 
 settled : (b c d : Bool) (n : ℕ) → Goes given (tested b c d n) (tested b c d n)
 settled false c d n = range refl refl
@@ -115,7 +115,7 @@ ends [] r = given r
 ends (b ∷ more) r = wrong_length
 
 at-end : (s : Settings) (count : ℕ) (l more : List ℕ) → count ≤ length l → length l ≤ count
-    → (if ltb count (length (l ++ more)) then wrong_length else given (s, l ++ more)) ≡ ends more (s, l)
+    → (when ltb count (length (l ++ more)) then wrong_length else given (s, l ++ more)) ≡ ends more (s, l)
 at-end s count l [] a b = rw (append-nil l, le-ltb count (length l) b)
 at-end s count l (c ∷ more) a b = rw (lt-ltb count (length (l ++ c ∷ more)) (omega (arith, length-append l (c ∷ more))))
 

@@ -10,7 +10,7 @@ use lib.Dec.{ltb, eqb}
 use lib.ListN.{length, take, drop}
 use lib.Seq.{take_all}
 use borrow.Author.Tests.{ltb-false, eqb-true, eqb-false}
-use Rattle.ump.specs.Choice.{if◌then◌else◌}
+use Rattle.ump.specs.Choice.{when◌then◌else◌}
 use Rattle.ump.specs.Outcome.{Outcome, given, out_of_range}
 use Rattle.ump.proofs.Cases.{by-test}
 use Rattle.mpe_layout.specs.Layout.{legal}
@@ -154,7 +154,7 @@ record SectionBack (section : Section) (t t' : Settings) (l rest : List ℕ) : T
   pub bytes : l ≡ section_of section t' ++ rest
   pub beside : (j : ℕ) → entry_of (other_section section) t' j ≡ entry_of (other_section section) t j
 
-pub unless : {A : Type 0} (b : Bool) (o : Outcome A) (a : A) → (if b then out_of_range else o) ≡ given a → o ≡ given a
+pub unless : {A : Type 0} (b : Bool) (o : Outcome A) (a : A) → (when b then out_of_range else o) ≡ given a → o ≡ given a
 unless true o a e = not-given e
 unless false o a e = e
 
@@ -212,7 +212,7 @@ zones-back l t rest e =
       ap (λ (q : Settings × List ℕ). legal q.0.layout) (sym c.1) ∙ c.0,
     )
   where
-    pair : (b : Bool) (r q : Settings × List ℕ) → (if b then given r else out_of_range) ≡ given q → (b ≡ true) × (r ≡ q)
+    pair : (b : Bool) (r q : Settings × List ℕ) → (when b then given r else out_of_range) ≡ given q → (b ≡ true) × (r ≡ q)
     pair true r q e = (refl, same-given r q e)
     pair false r q e = not-given e
 
@@ -224,7 +224,7 @@ channels-back l m rest t s zones e =
 
 -- the label
 label-tests : (a b c d : Bool) (r q : Settings × List ℕ)
-    → (if a then out_of_range else if b then wrong_length else if c then (if d then wrong_length else given r) else out_of_range) ≡ given q
+    → (when a then out_of_range else when b then wrong_length else when c then (when d then wrong_length else given r) else out_of_range) ≡ given q
     → (a ≡ false) × (b ≡ false) × (c ≡ true) × (d ≡ false) × (r ≡ q)
 label-tests true b c d r q e = not-given e
 label-tests false true c d r q e = not-given e

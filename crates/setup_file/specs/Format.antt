@@ -2,7 +2,7 @@
 -- (document 02, 2026-07). "Setup file" is the papers' own term.
 use Rattle.std.specs.Prelude.{ℕ, zero, suc, ◌*◌, ◌+◌, ◌/◌, ◌%◌, ◌^◌, Bool, true, false, ltb, eqb, length, get_or, set}
 use mathlib.Core.List.{List, [], ◌∷◌, ◌++◌, flatten}
-use Rattle.ump.specs.Choice.{if◌then◌else◌}
+use Rattle.ump.specs.Choice.{when◌then◌else◌}
 use Rattle.mpe_layout.specs.declared.MpeZone.{MpeZone}
 use Rattle.mpe_layout.specs.declared.MpeZone.TheVariants.{Lower, Upper}
 use Rattle.mpe_layout.specs.Layout.{layout_of}
@@ -28,7 +28,7 @@ abbrev pub number_in : List ℕ → ℕ
 number_in entry = get_or entry 0 0
 
 abbrev pub zone_numbered : ℕ → MpeZone
-zone_numbered number = if eqb number 0 then Lower else Upper
+zone_numbered number = when eqb number 0 then Lower else Upper
 
 -- Zones: number, members, manager semitones and cents, member semitones and cents, mode
 abbrev pub members_from : List ℕ → ℕ
@@ -49,19 +49,19 @@ bend_from entry = get_or entry 1 0 * 2 ^ 7 + get_or entry 2 0
 -- every byte of a whole entry is inside its limits: zone 0 or 1, members 1 to 15, semitones 0 to 96, cents 0 to 99, mode 3 or 4
 unfoldable pub zone_entry_within : ℕ → ℕ → ZoneSettings → Bool
 zone_entry_within number members zone =
-    if ltb 1 number then false else
-    if eqb members 0 then false else
-    if ltb 15 members then false else
+    when ltb 1 number then false else
+    when eqb members 0 then false else
+    when ltb 15 members then false else
     zone_allowed members zone
 
 -- channel 0 to 15, and the others 0 to 127
 unfoldable pub channel_entry_within : ℕ → ℕ → ℕ → ℕ → ℕ → Bool
 channel_entry_within number msb lsb pressure brightness =
-    if ltb 15 number then false else
-    if ltb 127 msb then false else
-    if ltb 127 lsb then false else
-    if ltb 127 pressure then false else
-    if ltb 127 brightness then false else
+    when ltb 15 number then false else
+    when ltb 127 msb then false else
+    when ltb 127 lsb then false else
+    when ltb 127 pressure then false else
+    when ltb 127 brightness then false else
     true
 
 abbrev pub entry_within : Section → List ℕ → Bool
@@ -71,7 +71,7 @@ entry_within Channels entry = channel_entry_within (number_in entry) (get_or ent
 -- an entry that is not listed: a zone without members, a channel at bend 0x2000 (MSB 64, LSB 0), pressure 0, brightness 64
 unfoldable pub at_rest : ℕ → ℕ → ℕ → ℕ → Bool
 at_rest msb lsb pressure brightness =
-    if eqb msb 64 then (if eqb lsb 0 then (if eqb pressure 0 then eqb brightness 64 else false) else false) else false
+    when eqb msb 64 then (when eqb lsb 0 then (when eqb pressure 0 then eqb brightness 64 else false) else false) else false
 
 abbrev pub unlisted : Section → List ℕ → Bool
 unlisted Zones entry = eqb (members_from entry) 0
@@ -100,7 +100,7 @@ entry_of Channels s number = channel_entry number (bend_on s number) (pressure_o
 unfoldable pub entries_from : Section → Settings → ℕ → ℕ → List (List ℕ)
 entries_from section s k zero = []
 entries_from section s k (suc n) =
-    if unlisted section (entry_of section s k) then entries_from section s (suc k) n
+    when unlisted section (entry_of section s k) then entries_from section s (suc k) n
     else entry_of section s k ∷ entries_from section s (suc k) n
 
 abbrev pub entries_of : Section → Settings → List (List ℕ)
@@ -113,13 +113,13 @@ section_of section s = length (entries_of section s) ∷ flatten (entries_of sec
 -- a label: at most 32 bytes, each 0x20 to 0x7E
 unfoldable pub printable : List ℕ → Bool
 printable [] = true
-printable (b ∷ label) = if ltb b 0x20 then false else if ltb 0x7E b then false else printable label
+printable (b ∷ label) = when ltb b 0x20 then false else when ltb 0x7E b then false else printable label
 
 abbrev pub most_label : ℕ
 most_label = 32
 
 unfoldable pub label_allowed : List ℕ → Bool
-label_allowed label = if ltb most_label (length label) then false else printable label
+label_allowed label = when ltb most_label (length label) then false else printable label
 
 -- the file of settings and a label
 abbrev pub setup_file : Settings → List ℕ → List ℕ
@@ -127,7 +127,7 @@ setup_file s label = section_of Zones s ++ section_of Channels s ++ (length labe
 
 -- the settings in the fields that are read: of a zone without members none, and it is as in new settings (document 01, "Restatement")
 abbrev pub seen_zone : ℕ → ZoneSettings → ZoneSettings
-seen_zone members z = if eqb members 0 then new_zone else z
+seen_zone members z = when eqb members 0 then new_zone else z
 
 abbrev pub seen : Settings → Settings
 seen s =
@@ -143,7 +143,7 @@ seen s =
 -- settings with what an entry says in the place of what they had for its number
 abbrev pub with_zone : ℕ → ℕ → ZoneSettings → Settings → Settings
 with_zone number members zone s =
-    if eqb number 0 then
+    when eqb number 0 then
     record {
       layout = layout_of members s.layout.upper;
       lower = zone;

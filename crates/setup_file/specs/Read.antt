@@ -1,6 +1,6 @@
 -- What a setup file says, or the refusal of its leftmost faulty count, entry or label (document 02, 2026-07).
 use Rattle.std.specs.Prelude.{ℕ, zero, suc, List, [], ◌∷◌, ltb, length, take, drop}
-use Rattle.ump.specs.Choice.{if◌then◌else◌}
+use Rattle.ump.specs.Choice.{when◌then◌else◌}
 use Rattle.ump.specs.Outcome.{Outcome, given, declined, out_of_range}
 use Rattle.mpe_layout.specs.Layout.{legal}
 use Rattle.settings.specs.declared.Settings.{Settings}
@@ -26,9 +26,9 @@ and_then (declined n v) next = declined n v
 -- whole entry 1 goes before 5.
 unfoldable pub entry_read : Section → ℕ → List ℕ → Outcome ℕ
 entry_read section least bytes =
-    if ltb (length bytes) (entry_size section) then wrong_length else
-    if entry_within section bytes then
-    (if ltb (number_in bytes) least then out_of_order else if unlisted section bytes then out_of_order else given (number_in bytes))
+    when ltb (length bytes) (entry_size section) then wrong_length else
+    when entry_within section bytes then
+    (when ltb (number_in bytes) least then out_of_order else when unlisted section bytes then out_of_order else given (number_in bytes))
     else out_of_range
 
 -- so many entries, from left to right, rising without repeats: the settings with what they say, and the bytes after them
@@ -41,19 +41,19 @@ entries_read section (suc left) least s bytes =
 -- a section: a count over its limit is 1 where it stands
 abbrev pub section_read : Section → Settings → List ℕ → Outcome (Settings × List ℕ)
 section_read section s [] = wrong_length
-section_read section s (count ∷ bytes) = if ltb (most section) count then out_of_range else entries_read section count 0 s bytes
+section_read section s (count ∷ bytes) = when ltb (most section) count then out_of_range else entries_read section count 0 s bytes
 
 -- the zones; their pair is tested after its section and before the channels' count
 abbrev pub zones_read : List ℕ → Outcome (Settings × List ℕ)
-zones_read bytes = and_then (section_read Zones new_settings bytes) (λ r. if legal r.0.layout then given r else out_of_range)
+zones_read bytes = and_then (section_read Zones new_settings bytes) (λ r. when legal r.0.layout then given r else out_of_range)
 
 -- the label, and nothing after it: cut short it is 4, whatever it holds; whole, with a byte outside 0x20 to 0x7E, it is 1, and what follows it is 4
 abbrev pub label_read : Settings → List ℕ → Outcome (Settings × List ℕ)
 label_read s [] = wrong_length
 label_read s (count ∷ bytes) =
-    if ltb most_label count then out_of_range else
-    if ltb (length bytes) count then wrong_length else
-    if printable (take count bytes) then (if ltb count (length bytes) then wrong_length else given (s, bytes)) else out_of_range
+    when ltb most_label count then out_of_range else
+    when ltb (length bytes) count then wrong_length else
+    when printable (take count bytes) then (when ltb count (length bytes) then wrong_length else given (s, bytes)) else out_of_range
 
 -- the settings and the label of a file: zones, channels, label; what an entry does not say is as in new settings
 abbrev pub file_read : List ℕ → Outcome (Settings × List ℕ)

@@ -7,7 +7,7 @@ use mathlib.Core.List.{List, [], ◌∷◌}
 use native.Mathlib.Omega.{arith}
 use lib.Dec.{ltb, eqb}
 use borrow.Author.Tests.{eqb-true, eqb-false}
-use Rattle.ump.specs.Choice.{if◌then◌else◌}
+use Rattle.ump.specs.Choice.{when◌then◌else◌}
 use Rattle.ump.specs.Outcome.{Outcome, given, declined, out_of_range}
 use Rattle.ump.proofs.Cases.{by-test}
 use Rattle.mpe_layout.specs.Layout.{legal_counts, legal}
@@ -62,11 +62,11 @@ unfolding legal legal_counts label_allowed printable
 nothing-sound = record { proper = new-proper; plain = λ section j b u. refl; is-legal = refl; is-label = refl }
 
 -- what a test lets pass
-pair-passed : {A : Type 0} (b : Bool) (x y : A) → (if b then given x else out_of_range) ≡ given y → (b ≡ true) × (x ≡ y)
+pair-passed : {A : Type 0} (b : Bool) (x y : A) → (when b then given x else out_of_range) ≡ given y → (b ≡ true) × (x ≡ y)
 pair-passed true x y e = (refl, same-given x y e)
 pair-passed false x y e = not-given e
 
-label-passed : {A : Type 0} (a b : Bool) (x y : A) → (if a then (if b then out_of_order else given x) else out_of_range) ≡ given y → (a ≡ true) × (x ≡ y)
+label-passed : {A : Type 0} (a b : Bool) (x y : A) → (when a then (when b then out_of_order else given x) else out_of_range) ≡ given y → (a ≡ true) × (x ≡ y)
 label-passed true false x y e = (refl, same-given x y e)
 label-passed true true x y e = not-given e
 label-passed false b x y e = not-given e

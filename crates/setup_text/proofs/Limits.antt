@@ -8,7 +8,7 @@ use native.Mathlib.Omega.{arith}
 use lib.Dec.{ltb, eqb}
 use lib.ListN.{length, get_or}
 use borrow.Author.Tests.{ltb-false, eqb-true, lt-ltb, le-ltb}
-use Rattle.ump.specs.Choice.{if◌then◌else◌}
+use Rattle.ump.specs.Choice.{when◌then◌else◌}
 use Rattle.mpe_sender.specs.Writers.{sensitivity_allowed}
 use Rattle.mpe_sender.proofs.Entered.{allowed-limits}
 use Rattle.settings.specs.declared.ZoneSettings.{ZoneSettings}
@@ -31,7 +31,7 @@ pub record ZoneLimits (number members : ℕ) (zone : ZoneSettings) : Type 0 wher
   pub member_cents : zone.member.cents ≤ 99
   pub mode-in : (zone.mode ≡ 3) ⊎ (zone.mode ≡ 4)
 
-mode-cases : (mode : ℕ) (b : Bool) → eqb mode 3 ≡ b → (if b then true else eqb mode 4) ≡ true → (mode ≡ 3) ⊎ (mode ≡ 4)
+mode-cases : (mode : ℕ) (b : Bool) → eqb mode 3 ≡ b → (when b then true else eqb mode 4) ≡ true → (mode ≡ 3) ⊎ (mode ≡ 4)
 mode-cases mode true e h = inl (eqb-true mode 3 e)
 mode-cases mode false e h = inr (eqb-true mode 4 h)
 
@@ -41,7 +41,7 @@ zone-limits number members zone h =
     let a = passed (ltb 1 number) _ h in
     let b = passed (eqb members 0) _ a.1 in
     let c = passed (ltb 15 members) _ b.1 in
-    let d : (if sensitivity_allowed zone.manager then (if sensitivity_allowed zone.member then (if eqb zone.mode 3 then true else eqb zone.mode 4) else false) else false) ≡ true =
+    let d : (when sensitivity_allowed zone.manager then (when sensitivity_allowed zone.member then (when eqb zone.mode 3 then true else eqb zone.mode 4) else false) else false) ≡ true =
     rw b.0 at c.1 in
     let e = both (sensitivity_allowed zone.manager) _ d in
     let f = both (sensitivity_allowed zone.member) _ e.1 in

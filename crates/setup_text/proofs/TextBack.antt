@@ -9,7 +9,7 @@ use native.Mathlib.Omega.{arith}
 use lib.Dec.{ltb, eqb}
 use lib.ListN.{length, drop}
 use borrow.Author.Tests.{ltb-false, le-ltb}
-use Rattle.ump.specs.Choice.{if◌then◌else◌}
+use Rattle.ump.specs.Choice.{when◌then◌else◌}
 use Rattle.ump.specs.Outcome.{given, out_of_range}
 use Rattle.ump.proofs.Cases.{by-test}
 use Rattle.mpe_layout.specs.Layout.{legal}
@@ -214,7 +214,7 @@ label-on (b ∷ label) h t i least l =
     starts-without = (λ e. omega arith, (λ e. omega arith, (λ e. omega arith, (λ e. omega arith, (λ e. omega arith, (λ e. omega arith, tt))))))
 
 -- a legal pair changes nothing
-pair-kept : (b : Bool) (r q : Settings × List ℕ) → (if b then given r else out_of_range) ≡ given q → r ≡ q
+pair-kept : (b : Bool) (r q : Settings × List ℕ) → (when b then given r else out_of_range) ≡ given q → r ≡ q
 pair-kept true r q e = same-given r q e
 pair-kept false r q e = not-given e
 

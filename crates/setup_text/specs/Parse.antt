@@ -1,7 +1,7 @@
 -- What a text says, or the refusal of its first faulty line, with the number of the line, counted from 1. The numbers are those of the file (document 02,
 -- 2026-07): 1, out of range; 5, an entry or a label out of order, or a channel at rest; and 4 is a line that has not the words of an item.
 use Rattle.std.specs.Prelude.{ℕ, suc, ◌+◌, ◌-◌, ◌*◌, Bool, true, false, List, [], ◌∷◌, ltb, eqb, length, get_or, take, drop}
-use Rattle.ump.specs.Choice.{if◌then◌else◌}
+use Rattle.ump.specs.Choice.{when◌then◌else◌}
 use Rattle.ump.specs.Outcome.{Outcome, given, declined, out_of_range, joined}
 use Rattle.mpe_layout.specs.Layout.{legal}
 use Rattle.settings.specs.declared.Settings.{Settings}
@@ -26,7 +26,7 @@ in_first b (part ∷ parts) = (b ∷ part) ∷ parts
 -- the parts of a text between one such byte and the next
 unfoldable pub parts_at : ℕ → List ℕ → List (List ℕ)
 parts_at stop [] = [] ∷ []
-parts_at stop (b ∷ text) = if eqb b stop then [] ∷ parts_at stop text else in_first b (parts_at stop text)
+parts_at stop (b ∷ text) = when eqb b stop then [] ∷ parts_at stop text else in_first b (parts_at stop text)
 
 -- lines, up to LF; the last may lack it, or is empty
 abbrev pub text_lines : List ℕ → List (List ℕ)
@@ -40,30 +40,30 @@ line_words line = parts_at 0x20 line
 unfoldable pub digits_read : ℕ → List ℕ → Outcome ℕ
 digits_read before [] = given before
 digits_read before (d ∷ digits) =
-    if ltb d 0x30 then no_item else
-    if ltb 0x39 d then no_item else
+    when ltb d 0x30 then no_item else
+    when ltb 0x39 d then no_item else
     digits_read (10 * before + (d - 0x30)) digits
 
 unfoldable pub number_read : List ℕ → Outcome ℕ
 number_read word =
-    if eqb (length word) 0 then no_item else
-    if ltb 5 (length word) then no_item else
+    when eqb (length word) 0 then no_item else
+    when ltb 5 (length word) then no_item else
     digits_read 0 word
 
 unfoldable pub same_bytes : List ℕ → List ℕ → Bool
 same_bytes [] [] = true
 same_bytes [] (b ∷ m) = false
 same_bytes (a ∷ l) [] = false
-same_bytes (a ∷ l) (b ∷ m) = if eqb a b then same_bytes l m else false
+same_bytes (a ∷ l) (b ∷ m) = when eqb a b then same_bytes l m else false
 
 -- the number that a word says; a word that has to stand as it is says 0
 unfoldable pub field_read : Field → List ℕ → Outcome ℕ
-field_read Zone word = if same_bytes word (ascii "lower") then given 0 else if same_bytes word (ascii "upper") then given 1 else no_item
-field_read Mode word = if same_bytes word (ascii "poly") then given 3 else if same_bytes word (ascii "mono") then given 4 else no_item
-field_read Channel word = if same_bytes word (ascii "channel") then given 0 else no_item
-field_read Bend word = if same_bytes word (ascii "bend") then given 0 else no_item
-field_read Pressure word = if same_bytes word (ascii "pressure") then given 0 else no_item
-field_read Brightness word = if same_bytes word (ascii "brightness") then given 0 else no_item
+field_read Zone word = when same_bytes word (ascii "lower") then given 0 else when same_bytes word (ascii "upper") then given 1 else no_item
+field_read Mode word = when same_bytes word (ascii "poly") then given 3 else when same_bytes word (ascii "mono") then given 4 else no_item
+field_read Channel word = when same_bytes word (ascii "channel") then given 0 else no_item
+field_read Bend word = when same_bytes word (ascii "bend") then given 0 else no_item
+field_read Pressure word = when same_bytes word (ascii "pressure") then given 0 else no_item
+field_read Brightness word = when same_bytes word (ascii "brightness") then given 0 else no_item
 field_read Number word = number_read word
 
 -- the numbers that all words of a line say
@@ -98,8 +98,8 @@ or_else (declined n v) other = other
 
 unfoldable pub item_read : List ℕ → Outcome Item
 item_read line =
-    if silent line then given says_nothing else
-    if same_bytes (take 6 line) label_start then given (says_label (drop 6 line)) else
+    when silent line then given says_nothing else
+    when same_bytes (take 6 line) label_start then given (says_label (drop 6 line)) else
     or_else (entry_line_read Zones line) (entry_line_read Channels line)
 
 -- what the lines so far have said, and the least place that the next item may have
@@ -124,7 +124,7 @@ label_place = most Zones + most Channels
 
 -- an entry is taken as in a file, if its place comes after those before it; and the zones have to be a legal pair
 abbrev pub pair_tested : Settings → List ℕ → ℕ → Outcome SoFar
-pair_tested s label least = if legal s.layout then given (so_far s label least) else out_of_range
+pair_tested s label least = when legal s.layout then given (so_far s label least) else out_of_range
 
 unfoldable pub entry_taken : Section → List ℕ → SoFar → Outcome SoFar
 entry_taken section entry r =
@@ -134,8 +134,8 @@ entry_taken section entry r =
 -- a label is taken once, after the entries
 unfoldable pub label_taken : List ℕ → SoFar → Outcome SoFar
 label_taken label r =
-    if label_allowed label then
-    (if ltb label_place r.least then out_of_order else given (so_far r.settings label (suc label_place)))
+    when label_allowed label then
+    (when ltb label_place r.least then out_of_order else given (so_far r.settings label (suc label_place)))
     else out_of_range
 
 abbrev pub item_taken : SoFar → Item → Outcome SoFar

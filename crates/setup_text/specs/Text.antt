@@ -4,7 +4,7 @@ use Rattle.std.specs.Prelude.{ℕ, ltb, eqb, length, get_or, drop}
 use Prim.Native.Char.{code}
 use Prim.Native.String.{String, [] as empty, ◌∷◌ as ◌then◌}
 use mathlib.Core.List.{List, [], ◌∷◌, ◌++◌, map, flatten}
-use Rattle.ump.specs.Choice.{if◌then◌else◌}
+use Rattle.ump.specs.Choice.{when◌then◌else◌}
 use Rattle.ump.specs.Outcome.{Outcome, given, declined, too_small}
 use Rattle.settings.specs.declared.Settings.{Settings}
 use Rattle.setup_file.specs.declared.Section.{Section}
@@ -29,8 +29,8 @@ line_fields Channels = Channel ∷ Number ∷ Bend ∷ Number ∷ Pressure ∷ N
 
 -- the word for a number: in decimal; of a zone lower for 0 and upper for 1; of a mode poly for 3 and mono for 4; the others stand as they are
 abbrev pub field_text : Field → ℕ → List ℕ
-field_text Zone n = if eqb n 0 then ascii "lower" else ascii "upper"
-field_text Mode n = if eqb n 3 then ascii "poly" else ascii "mono"
+field_text Zone n = when eqb n 0 then ascii "lower" else ascii "upper"
+field_text Mode n = when eqb n 3 then ascii "poly" else ascii "mono"
 field_text Channel n = ascii "channel"
 field_text Bend n = ascii "bend"
 field_text Pressure n = ascii "pressure"
@@ -80,7 +80,7 @@ setup_text s label = lines_of Zones (entries_of Zones s) ++ lines_of Channels (e
 -- written; and the text that it writes
 abbrev pub text_reply : Outcome (Settings × List ℕ) → ℕ → Outcome ℕ
 text_reply (given r) got =
-    if ltb got (length (setup_text r.0 r.1)) then too_small (length (setup_text r.0 r.1)) got else given (length (setup_text r.0 r.1))
+    when ltb got (length (setup_text r.0 r.1)) then too_small (length (setup_text r.0 r.1)) got else given (length (setup_text r.0 r.1))
 text_reply (declined n v) got = declined n v
 
 abbrev pub text_in : Outcome (Settings × List ℕ) → List ℕ

@@ -10,7 +10,7 @@ use lib.Dec.{ltb}
 use lib.ListN.{length, take, drop, length-take}
 use lib.Seq.{get_or-take, take-nil}
 use borrow.Author.Tests.{ltb-true, ltb-false}
-use Rattle.ump.specs.Choice.{if◌then◌else◌}
+use Rattle.ump.specs.Choice.{when◌then◌else◌}
 use Rattle.ump.specs.Outcome.{Outcome, given, declined}
 use Rattle.ump.proofs.Cases.{by-test}
 use Rattle.setup_file.specs.declared.Section.{Section}
@@ -48,13 +48,13 @@ module _ (section : Section) (n : LineNumbers) (line : List ℕ) (e : numbers_fo
   pub entry_found : n.found ≡ true → given (says_entry section (entry_from section n.numbers)) ≡ entry_line_read section line
   entry_found f =
       let g : given (take (length (line_fields section)) n.numbers) ≡ fields_read (line_fields section) (line_words line) =
-      ap (λ b. if b then given (take (length (line_fields section)) n.numbers) else no_item) (sym f) ∙ e in
+      ap (λ b. when b then given (take (length (line_fields section)) n.numbers) else no_item) (sym f) ∙ e in
       rw (← g, from_front section n.numbers)
 
   pub entry-not : n.found ≡ false → no_item ≡ entry_line_read section line
   entry-not f =
       let g : no_item ≡ fields_read (line_fields section) (line_words line) =
-      ap (λ b. if b then given (take (length (line_fields section)) n.numbers) else no_item) (sym f) ∙ e in
+      ap (λ b. when b then given (take (length (line_fields section)) n.numbers) else no_item) (sym f) ∙ e in
       rw (← g)
 
 -- a line is taken as its item is

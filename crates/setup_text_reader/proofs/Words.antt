@@ -9,7 +9,7 @@ use lib.Dec.{ltb, eqb}
 use lib.ListN.{length, get_or, take, drop, set, drop_of_length-le}
 use lib.Seq.{drop-cons, take-suc-set}
 use borrow.Author.Tests.{lt-ltb, le-ltb}
-use Rattle.ump.specs.Choice.{if◌then◌else◌}
+use Rattle.ump.specs.Choice.{when◌then◌else◌}
 use Rattle.ump.specs.Outcome.{Outcome, given, declined, joined, followed_by}
 use Rattle.ump.proofs.Cases.{by-test}
 use Rattle.setup_text.specs.declared.Field.{Field}
@@ -69,7 +69,7 @@ module _ (said : List ℕ) (fields : List Field) (k at : ℕ) (line : List ℕ) 
           ∙ ap (λ i. numbers_on (said ++ (n ∷ [])) (drop i fields) next line) (sym (add-one k))
 
   -- every field has its word: the line ends, or goes on
-  pub numbers-end : length fields ≤ k → numbers_on said (drop k fields) at line ≡ (if ltb (length line) at then given said else no_item)
+  pub numbers-end : length fields ≤ k → numbers_on said (drop k fields) at line ≡ (when ltb (length line) at then given said else no_item)
   unfolding fields_read
   numbers-end h =
       ap (λ f. numbers_on said f at line) (drop_of_length-le fields h)

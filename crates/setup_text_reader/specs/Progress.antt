@@ -1,6 +1,6 @@
 -- How far a text has been read: its parts from a place on, and what the steps of the reader found.
 use Rattle.std.specs.Prelude.{ℕ, ◌-◌, List, [], ◌∷◌, ◌++◌, map, ltb, length, take, drop}
-use Rattle.ump.specs.Choice.{if◌then◌else◌}
+use Rattle.ump.specs.Choice.{when◌then◌else◌}
 use Rattle.ump.specs.Outcome.{Outcome, given}
 use Rattle.settings.specs.declared.Settings.{Settings}
 use Rattle.setup_file.specs.declared.Section.{Section}
@@ -18,7 +18,7 @@ use Rattle.setup_text.specs.Parse.{no_item, parts_at, entry_from, Item, says_not
 
 -- the parts from a place on; behind the last there is none
 abbrev pub parts_from : ℕ → ℕ → List ℕ → List (List ℕ)
-parts_from stop at text = if ltb (length text) at then [] else parts_at stop (drop at text)
+parts_from stop at text = when ltb (length text) at then [] else parts_at stop (drop at text)
 
 -- what a word says
 abbrev pub said_read : Said → Outcome ℕ
@@ -27,7 +27,7 @@ said_read said.Nothing = no_item
 
 -- the numbers that a line says in the form of a section
 abbrev pub numbers_found : Section → LineNumbers → Outcome (List ℕ)
-numbers_found section n = if n.found then given (take (length (line_fields section)) n.numbers) else no_item
+numbers_found section n = when n.found then given (take (length (line_fields section)) n.numbers) else no_item
 
 -- the item of a line
 abbrev pub item_of_kind : ItemKind → Section → List ℕ → List ℕ → Outcome Item
@@ -41,7 +41,7 @@ item_found i line = item_of_kind i.kind i.section i.numbers line
 
 -- a number as a byte, and the bytes of the entry that the numbers of a line say: one above 255 is 255, which is outside every limit
 abbrev pub byte_for : ℕ → ℕ
-byte_for n = if ltb n 255 then n else 255
+byte_for n = when ltb n 255 then n else 255
 
 abbrev pub entry_bytes : Section → List ℕ → List ℕ
 entry_bytes Zones numbers = map byte_for (entry_from Zones numbers)

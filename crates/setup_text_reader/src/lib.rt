@@ -2,7 +2,7 @@
 #![tactic(auto)]
 
 ghost use Rattle.std.specs.Prelude.{◌≡◌, List, ◌∷◌, ℕ, ◌+◌, ◌-◌, ◌<◌, ◌≤◌, length, take, drop};
-ghost use Rattle.ump.specs.Choice.{if◌then◌else◌};
+ghost use Rattle.ump.specs.Choice.{when◌then◌else◌};
 ghost use Rattle.ump.specs.Outcome.{given};
 ghost use Rattle.setup_file.specs.Read.{settings_in, settings_or_new, label_in};
 ghost use Rattle.setup_entry.specs.Entry.{setup_read};
@@ -130,7 +130,7 @@ fn same_bytes(text: &[u8], other: &[u8]) -> bool
 // The number that one of two words says.
 fn either_said(word: &[u8], first: &[u8], second: &[u8], number: u32) -> Said
     requires { number < 4 }
-    ensures { said_read result ≡ (if same_bytes word.now first.now then given number else if same_bytes word.now second.now then given (number + 1) else no_item) }
+    ensures { said_read result ≡ (when same_bytes word.now first.now then given number else when same_bytes word.now second.now then given (number + 1) else no_item) }
 {
     if same_bytes(word, first) {
         return Said::Value(number);
@@ -143,7 +143,7 @@ fn either_said(word: &[u8], first: &[u8], second: &[u8], number: u32) -> Said
 
 // A word that has to stand as it is says 0.
 fn word_said(word: &[u8], expected: &[u8]) -> Said
-    ensures { said_read result ≡ (if same_bytes word.now expected.now then given 0 else no_item) }
+    ensures { said_read result ≡ (when same_bytes word.now expected.now then given 0 else no_item) }
 {
     if same_bytes(word, expected) {
         return Said::Value(0);

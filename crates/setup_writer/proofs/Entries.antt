@@ -11,7 +11,7 @@ use lib.Dec.{eqb}
 use lib.ListN.{length, set, length-append}
 use lib.Seq.{sets}
 use borrow.Author.Tests.{ne_eqb, eqb-true}
-use Rattle.ump.specs.Choice.{if◌then◌else◌}
+use Rattle.ump.specs.Choice.{when◌then◌else◌}
 use Rattle.ump.proofs.Cases.{by-test}
 use Rattle.settings.specs.declared.Settings.{Settings}
 use Rattle.setup_file.specs.declared.Section.{Section}
@@ -20,7 +20,7 @@ use Rattle.setup_file.specs.Format.{most, entry_size, at_rest, unlisted, entry_o
 
 -- the halves of a bend are at rest exactly at 0x2000
 pub bend-rest : (bend pressure brightness : ℕ) → bend ≡ 0x2000
-    → at_rest (bend / 2 ^ 7) (bend % 2 ^ 7) pressure brightness ≡ (if eqb pressure 0 then eqb brightness 64 else false)
+    → at_rest (bend / 2 ^ 7) (bend % 2 ^ 7) pressure brightness ≡ (when eqb pressure 0 then eqb brightness 64 else false)
 unfolding at_rest
 bend-rest bend pressure brightness e = rw e
 

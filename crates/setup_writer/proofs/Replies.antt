@@ -8,7 +8,7 @@ use native.Mathlib.Omega.{arith}
 use lib.Dec.{ltb}
 use lib.ListN.{length}
 use borrow.Author.Tests.{lt-ltb, le-ltb, ltb-false}
-use Rattle.ump.specs.Choice.{if◌then◌else◌}
+use Rattle.ump.specs.Choice.{when◌then◌else◌}
 use Rattle.ump.specs.Outcome.{given, out_of_range, too_small}
 use Rattle.settings.specs.declared.Settings.{Settings}
 use Rattle.settings.specs.Settings.{allowed}
@@ -50,7 +50,7 @@ module _ (s : Settings) (label : List ℕ) (got : ℕ) where
         fits = ltb-false got (length (setup_file s label)) c.2;
       }
     where
-      cases : (a b c : Bool) (m : ℕ) → given n ≡ (if a then (if b then (if c then too_small m got else given m) else out_of_range) else out_of_range)
+      cases : (a b c : Bool) (m : ℕ) → given n ≡ (when a then (when b then (when c then too_small m got else given m) else out_of_range) else out_of_range)
           → (a ≡ true) × (b ≡ true) × (c ≡ false) × (m ≡ n)
       cases false b c m e = absurd (let z : ◌≡◌ {A = ℕ} 0 1 = cc in omega arith)
       cases true false c m e = absurd (let z : ◌≡◌ {A = ℕ} 0 1 = cc in omega arith)

@@ -8,7 +8,7 @@ use native.Mathlib.Nat.{pow-suc}
 use native.Mathlib.Omega.{arith}
 use lib.Dec.{ltb}
 use borrow.Author.Tests.{lt-ltb, le-ltb, ltb-true, ltb-false}
-use Rattle.ump.specs.Choice.{if◌then◌else◌}
+use Rattle.ump.specs.Choice.{when◌then◌else◌}
 use Rattle.sweep_text.specs.Decimal.{digits_in, decimal}
 use Rattle.sweep_text.specs.Claims.{number_said, AllDigits, NoLeadingZero, DigitsRead}
 
@@ -23,7 +23,7 @@ enough zero g n h l = rw (lt-ltb n 10 (omega arith))
 enough (suc f) zero n h l = rw (lt-ltb n 10 (omega arith))
 enough (suc f) (suc g) n h l = by (ltb n 10) (ltb-false n 10) (λ (v : 10 ≤ n). enough f g (n / 10) (omega arith) (omega arith))
   where
-    by : (t : Bool) → (t ≡ false → 10 ≤ n) → (10 ≤ n → digits_in (suc f) (n / 10) ≡ digits_in (suc g) (n / 10)) → (if t then (0x30 + n) ∷ [] else digits_in (suc f) (n / 10) ++ ((0x30 + n % 10) ∷ [])) ≡ (if t then (0x30 + n) ∷ [] else digits_in (suc g) (n / 10) ++ ((0x30 + n % 10) ∷ []))
+    by : (t : Bool) → (t ≡ false → 10 ≤ n) → (10 ≤ n → digits_in (suc f) (n / 10) ≡ digits_in (suc g) (n / 10)) → (when t then (0x30 + n) ∷ [] else digits_in (suc f) (n / 10) ++ ((0x30 + n % 10) ∷ [])) ≡ (when t then (0x30 + n) ∷ [] else digits_in (suc g) (n / 10) ++ ((0x30 + n % 10) ∷ []))
     by true u r = refl
     by false u r = ap (λ (x : List ℕ). x ++ ((0x30 + n % 10) ∷ [])) (r (u refl))
 

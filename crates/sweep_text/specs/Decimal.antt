@@ -1,11 +1,11 @@
 -- Numbers in decimal, as ASCII text.
 use Rattle.std.specs.Prelude.{ℕ, zero, suc, ◌+◌, ◌/◌, ◌%◌, List, [], ◌∷◌, ◌++◌, ltb, ℤ, pos, negsuc}
-use Rattle.ump.specs.Choice.{if◌then◌else◌}
+use Rattle.ump.specs.Choice.{when◌then◌else◌}
 
 -- the digits of a number that has at most so many, the highest first
 unfoldable pub digits_in : ℕ → ℕ → List ℕ
 digits_in zero n = []
-digits_in (suc most) n = if ltb n 10 then (0x30 + n) ∷ [] else digits_in most (n / 10) ++ ((0x30 + n % 10) ∷ [])
+digits_in (suc most) n = when ltb n 10 then (0x30 + n) ∷ [] else digits_in most (n / 10) ++ ((0x30 + n % 10) ∷ [])
 
 -- n has at most n + 1 digits
 abbrev pub decimal : ℕ → List ℕ

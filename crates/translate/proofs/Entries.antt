@@ -9,7 +9,7 @@ use native.Mathlib.Omega.{arith}
 use lib.Dec.{eqb, ltb}
 use borrow.Author.Tests.{eqb-true, ne_eqb, le-ltb}
 use lib.ListN.{get_or-replicate}
-use Rattle.ump.specs.Choice.{if◌then◌else◌}
+use Rattle.ump.specs.Choice.{when◌then◌else◌}
 use Rattle.ump.specs.Outcome.{given}
 use Rattle.ump.proofs.Cases.{by-test, of-both}
 use Rattle.translate_state.specs.declared.ChannelState.{ChannelState}
@@ -81,7 +81,7 @@ module _ (rm rl nm nl : ℕ) where
 
   abbrev mcm_of : Kind → Bool
   mcm_of none = false
-  mcm_of rpn = if eqb rm (held 0) then eqb rl (held 6) else false
+  mcm_of rpn = when eqb rm (held 0) then eqb rl (held 6) else false
   mcm_of nrpn = false
 
 null-is-no-mcm : (k : Kind) → mcm_of 128 128 128 128 k ≡ false
@@ -489,7 +489,7 @@ module _ (g c rm rl nm nl d bm bl v : ℕ) (k : Kind) (h : v < 128) where
 
 -- a number that is not null, and one that is not 0/6
 module _ (m l : ℕ) where
-  not-mcm : (McmNumber m l → ⊥) → (if eqb (m + 1) (held 0) then eqb (l + 1) (held 6) else false) ≡ false
+  not-mcm : (McmNumber m l → ⊥) → (when eqb (m + 1) (held 0) then eqb (l + 1) (held 6) else false) ≡ false
   not-mcm n =
       by-test (eqb (m + 1) 1)
       (λ e.

@@ -8,7 +8,7 @@ use native.Mathlib.Omega.{arith}
 use borrow.Author.Tests.{ltb-false, le-leb, ne_eqb}
 use lib.Dec.{ltb, leb, eqb}
 use lib.Seq.{set-get_or}
-use Rattle.ump.specs.Choice.{if◌then◌else◌}
+use Rattle.ump.specs.Choice.{when◌then◌else◌}
 use Rattle.ump.specs.Packet.{packet_value}
 use Rattle.ump.specs.Word.{channel_of, form_of, word_form, word_of}
 use Rattle.ump.proofs.Cases.{by-test, of-both}
@@ -31,7 +31,7 @@ neither false y h = (refl, h)
 
 -- a controller that is not held
 passed : (g c : ℕ) (s : ChannelState) (n v : ℕ) → held_controller n ≡ false
-    → control_changed g c s n v ≡ channel_step (if eqb n 121 then controllers_reset s else s) (passed_on g c 0xB n v)
+    → control_changed g c s n v ≡ channel_step (when eqb n 121 then controllers_reset s else s) (passed_on g c 0xB n v)
 unfolding control_changed
 passed g c s n v not-held =
     let n0 = neither (eqb n 0) _ not-held in
@@ -170,7 +170,7 @@ module _ (r : Midi1ToMidi2Group) (f : Formed r) where
   others-kept-flushed h c d n = of-both (λ q. state_on q d ≡ state_on r d) (record_allowed r) (on-other r f (packet_value c) d _ n) refl
 
 -- two groups
-alike : {A : Type 0} (R : A → A → Type 0) (b : Bool) {x y z w : A} → R x z → R y w → R (if b then x else y) (if b then z else w)
+alike : {A : Type 0} (R : A → A → Type 0) (b : Bool) {x y z w : A} → R x z → R y w → R (when b then x else y) (when b then z else w)
 alike R true p q = p
 alike R false p q = q
 

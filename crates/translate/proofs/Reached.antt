@@ -8,7 +8,7 @@ use native.Mathlib.Omega.{arith}
 use borrow.Author.Tests.{eqb-true, eqb-false, leb-true}
 use lib.Dec.{eqb}
 use lib.ListN.{get_or-replicate}
-use Rattle.ump.specs.Choice.{if◌then◌else◌}
+use Rattle.ump.specs.Choice.{when◌then◌else◌}
 use Rattle.ump.specs.Word.{word_form}
 use Rattle.ump.proofs.Cases.{by-test}
 use Rattle.translate_state.specs.declared.ChannelState.{ChannelState}
@@ -108,7 +108,7 @@ module _ (c : ℕ) (h : c < 16) where
   -- a held byte: no message, or one of its controller
   held-lead : (k : ℕ) → controller_of k < 128 → byte_of empty_state k ≡ 0
       → ((v : ℕ) → byte_of (left empty_state (controller_of k) v) k ≡ v % 2 ^ 7 + 1)
-      → (x : ℕ) → x ≤ 128 → Leads k x (if eqb x 0 then [] else control 0 c (controller_of k) (x - 1) ∷ [])
+      → (x : ℕ) → x ≤ 128 → Leads k x (when eqb x 0 then [] else control 0 c (controller_of k) (x - 1) ∷ [])
   held-lead k n e f x l =
       by-test (eqb x 0)
       (λ z. rw (z, eqb-true x 0 z) (by-none k e))

@@ -1,6 +1,6 @@
 -- Lists of calls on one record, and the words of a list of messages (document 02, 2026-02).
 use Rattle.std.specs.Prelude.{◌≡◌, Bool, true, false, ◌&&◌, List, [], ◌∷◌, ◌++◌, map, ℕ, ◌-◌, ◌<◌, eqb, length}
-use Rattle.ump.specs.Choice.{if◌then◌else◌}
+use Rattle.ump.specs.Choice.{when◌then◌else◌}
 use Rattle.ump.specs.Outcome.{Outcome, given, declined, out_of_range}
 use Rattle.ump.specs.Word.{word_form, word_of}
 use Rattle.translate_state.specs.declared.ChannelState.{ChannelState}
@@ -56,13 +56,13 @@ pub record ListContinues (r : Midi1ToMidi2Group) (w : ℕ) (answer : Outcome (Li
 -- a byte of a channel, by its place among the eight
 abbrev pub byte_of : ChannelState → ℕ → ℕ
 byte_of s k =
-    if eqb k 0 then s.rpn_msb else if eqb k 1 then s.rpn_lsb else if eqb k 2 then s.nrpn_msb else
-    if eqb k 3 then s.nrpn_lsb else if eqb k 4 then s.data_msb else if eqb k 5 then s.bank_msb else
-    if eqb k 6 then s.bank_lsb else s.flags
+    when eqb k 0 then s.rpn_msb else when eqb k 1 then s.rpn_lsb else when eqb k 2 then s.nrpn_msb else
+    when eqb k 3 then s.nrpn_lsb else when eqb k 4 then s.data_msb else when eqb k 5 then s.bank_msb else
+    when eqb k 6 then s.bank_lsb else s.flags
 
 -- a value that is accepted for it
 abbrev pub byte_allowed : ℕ → ℕ → Bool
-byte_allowed k x = if eqb k 7 then flags_allowed x else held_allowed x
+byte_allowed k x = when eqb k 7 then flags_allowed x else held_allowed x
 
 -- a Control Change
 abbrev pub control : ℕ → ℕ → ℕ → ℕ → ℕ
@@ -71,26 +71,26 @@ control g c n v = word_of g 0xB c n v
 -- the controller that gives a held byte its value
 abbrev pub controller_of : ℕ → ℕ
 controller_of k =
-    if eqb k 0 then 101 else if eqb k 1 then 100 else if eqb k 2 then 99 else if eqb k 3 then 98 else
-    if eqb k 4 then 6 else if eqb k 5 then 0 else 32
+    when eqb k 0 then 101 else when eqb k 1 then 100 else when eqb k 2 then 99 else when eqb k 3 then 98 else
+    when eqb k 4 then 6 else when eqb k 5 then 0 else 32
 
 -- messages on channel c that give its flags a value, for each of the nine
 unfoldable pub leading_to_flags : ℕ → ℕ → List ℕ
 leading_to_flags c f =
-    if eqb f 1 then control 0 c 101 0 ∷ [] else
-    if eqb f 2 then control 0 c 99 0 ∷ [] else
-    if eqb f 4 then control 0 c 6 0 ∷ [] else
-    if eqb f 5 then control 0 c 101 0 ∷ control 0 c 6 0 ∷ [] else
-    if eqb f 6 then control 0 c 99 0 ∷ control 0 c 6 0 ∷ [] else
-    if eqb f 12 then control 0 c 6 0 ∷ control 0 c 121 0 ∷ [] else
-    if eqb f 13 then control 0 c 101 0 ∷ control 0 c 6 0 ∷ control 0 c 121 0 ∷ [] else
-    if eqb f 14 then control 0 c 99 0 ∷ control 0 c 6 0 ∷ control 0 c 121 0 ∷ [] else
+    when eqb f 1 then control 0 c 101 0 ∷ [] else
+    when eqb f 2 then control 0 c 99 0 ∷ [] else
+    when eqb f 4 then control 0 c 6 0 ∷ [] else
+    when eqb f 5 then control 0 c 101 0 ∷ control 0 c 6 0 ∷ [] else
+    when eqb f 6 then control 0 c 99 0 ∷ control 0 c 6 0 ∷ [] else
+    when eqb f 12 then control 0 c 6 0 ∷ control 0 c 121 0 ∷ [] else
+    when eqb f 13 then control 0 c 101 0 ∷ control 0 c 6 0 ∷ control 0 c 121 0 ∷ [] else
+    when eqb f 14 then control 0 c 99 0 ∷ control 0 c 6 0 ∷ control 0 c 121 0 ∷ [] else
     []
 
 -- messages on channel c that give its byte k the value x
 unfoldable pub leading_to : ℕ → ℕ → ℕ → List ℕ
 leading_to c k x =
-    if eqb k 7 then leading_to_flags c x else if eqb x 0 then [] else control 0 c (controller_of k) (x - 1) ∷ []
+    when eqb k 7 then leading_to_flags c x else when eqb x 0 then [] else control 0 c (controller_of k) (x - 1) ∷ []
 
 -- each word of a list has the word form
 unfoldable pub all_messages : List ℕ → Bool

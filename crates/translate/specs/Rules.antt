@@ -1,6 +1,6 @@
 -- The rules of the translation, as the words that short lists of messages give (M2-104 D.3; RP-015; M1-100 2.2.1; M2-115; document 02, 2026-02).
 use Rattle.std.specs.Prelude.{◌≡◌, Bool, false, ◌&&◌, ◌||◌, List, [], ◌∷◌, ◌++◌, map, ℕ, ◌+◌, ◌*◌, ◌^◌, ◌<◌, ◌≤◌, ltb, leb, eqb}
-use Rattle.ump.specs.Choice.{if◌then◌else◌}
+use Rattle.ump.specs.Choice.{when◌then◌else◌}
 use Rattle.ump.specs.Outcome.{given}
 use Rattle.ump.specs.Packet.{packet_value}
 use Rattle.ump.specs.Word.{channel_of, word_of}
@@ -32,7 +32,7 @@ control_words g c n v = first_word g 0xB c n 0 ∷ widened 7 32 v ∷ []
 
 -- a Registered Controller, bank m and index l, for a value of 14 bits: index 0 to 31 zero extended, the others widened (M2-115 4.1)
 abbrev pub registered_words : ℕ → ℕ → ℕ → ℕ → ℕ → List ℕ
-registered_words c m l g v = first_word g 0x2 c m l ∷ (if ltb l 32 then zero_extended 14 32 v else widened 14 32 v) ∷ []
+registered_words c m l g v = first_word g 0x2 c m l ∷ (when ltb l 32 then zero_extended 14 32 v else widened 14 32 v) ∷ []
 
 -- an Assignable Controller, always widened
 abbrev pub assignable_words : ℕ → ℕ → ℕ → ℕ → ℕ → List ℕ

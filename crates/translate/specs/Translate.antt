@@ -1,6 +1,6 @@
 -- From MIDI 1.0 to MIDI 2.0 channel voice messages (M2-104 D.3; M2-115; document 02, 2026-02).
 use Rattle.std.specs.Prelude.{ℕ, ◌+◌, ◌*◌, ◌^◌, List, [], ◌∷◌, ltb, eqb, set}
-use Rattle.ump.specs.Choice.{if◌then◌else◌}
+use Rattle.ump.specs.Choice.{when◌then◌else◌}
 use Rattle.ump.specs.Outcome.{Outcome, given, declined, out_of_range}
 use Rattle.ump.specs.Field.{field}
 use Rattle.ump.specs.Packet.{packet_value}
@@ -32,22 +32,22 @@ first_word group opcode channel a b =
 -- the data of a controller: index 0 to 31 of a registered one is zero extended, all else widened (M2-115 3.1, 4.1)
 abbrev pub controller_data : ℕ → ℕ → ℕ → ℕ
 controller_data opcode index value =
-    if eqb opcode 0x2 then (if ltb index 32 then zero_extended 14 32 value else widened 14 32 value) else widened 14 32 value
+    when eqb opcode 0x2 then (when ltb index 32 then zero_extended 14 32 value else widened 14 32 value) else widened 14 32 value
 
 -- a Registered (opcode 2) or Assignable (opcode 3) Controller with a held number, as bank and index: nothing where a half is missing, or for the null
 -- number (D.3.3)
 unfoldable pub controller_numbered : ℕ → ℕ → ℕ → ℕ → ℕ → ℕ → Translation
 controller_numbered g c opcode m l value =
-    if eqb m 0 then Nothing else if eqb l 0 then Nothing else
-    if eqb m (held 0x7F) then
-    (if eqb l (held 0x7F) then Nothing else Words (first_word g opcode c (value_in m) (value_in l)) (controller_data opcode (value_in l) value))
+    when eqb m 0 then Nothing else when eqb l 0 then Nothing else
+    when eqb m (held 0x7F) then
+    (when eqb l (held 0x7F) then Nothing else Words (first_word g opcode c (value_in m) (value_in l)) (controller_data opcode (value_in l) value))
     else Words (first_word g opcode c (value_in m) (value_in l)) (controller_data opcode (value_in l) value)
 
 -- the selected controller with a value of 14 bits
 unfoldable pub controller : ℕ → ℕ → ChannelState → ℕ → Translation
 controller g c s value =
-    if eqb (kind_in s.flags) 1 then controller_numbered g c 0x2 s.rpn_msb s.rpn_lsb value else
-    if eqb (kind_in s.flags) 2 then controller_numbered g c 0x3 s.nrpn_msb s.nrpn_lsb value else
+    when eqb (kind_in s.flags) 1 then controller_numbered g c 0x2 s.rpn_msb s.rpn_lsb value else
+    when eqb (kind_in s.flags) 2 then controller_numbered g c 0x3 s.nrpn_msb s.nrpn_lsb value else
     Nothing
 
 -- a value of 14 bits
@@ -57,8 +57,8 @@ joined_value msb lsb = msb * 2 ^ 7 + lsb
 -- the pending entry, with LSB 0
 unfoldable pub pending_words : ℕ → ℕ → ChannelState → Translation
 pending_words g c s =
-    if pending_in s.flags then
-    (if eqb s.data_msb 0 then Nothing else controller g c s (joined_value (value_in s.data_msb) 0))
+    when pending_in s.flags then
+    (when eqb s.data_msb 0 then Nothing else controller g c s (joined_value (value_in s.data_msb) 0))
     else Nothing
 
 abbrev pub channel_step : ChannelState → Translation → Stepped
@@ -67,7 +67,7 @@ channel_step s t = record { state = s; reply = t }
 -- 6: what is pending is sent and the value is held, pending. Where nothing was sent and RPN 0/6 is selected, which has no LSB, it is sent at once.
 unfoldable pub entered_after : Translation → ℕ → ℕ → ChannelState → Stepped
 entered_after (Words a b) g c s = channel_step s (Words a b)
-entered_after Nothing g c s = if mcm_selected s then channel_step (pending_sent s) (pending_words g c s) else channel_step s Nothing
+entered_after Nothing g c s = when mcm_selected s then channel_step (pending_sent s) (pending_words g c s) else channel_step s Nothing
 entered_after OutOfRange g c s = channel_step s OutOfRange
 
 abbrev pub msb_entered : ℕ → ℕ → ChannelState → ℕ → Stepped
@@ -76,8 +76,8 @@ msb_entered g c s v = entered_after (pending_words g c s) g c (entry_held (pendi
 -- 38: the held value is sent with this LSB; where a reset was noted it is ignored, and what is pending is sent (RP-015)
 unfoldable pub lsb_entered : ℕ → ℕ → ChannelState → ℕ → Stepped
 lsb_entered g c s v =
-    if null_after_in s.flags then channel_step (pending_sent s) (pending_words g c s) else
-    if eqb s.data_msb 0 then channel_step s Nothing else
+    when null_after_in s.flags then channel_step (pending_sent s) (pending_words g c s) else
+    when eqb s.data_msb 0 then channel_step s Nothing else
     channel_step (completed s) (controller g c s (joined_value (value_in s.data_msb) v))
 
 -- a message that passes on, its value of 7 bits widened to 32
@@ -87,13 +87,13 @@ passed_on g c opcode index value = Words (first_word g opcode c index 0) (widene
 -- a control change (D.3.3, D.3.4); 98 to 101 end the last parameter, so that what is pending is sent before the number is stored
 unfoldable pub control_changed : ℕ → ℕ → ChannelState → ℕ → ℕ → Stepped
 control_changed g c s n v =
-    if eqb n 0 then channel_step (bank_msb_held s v) Nothing else
-    if eqb n 6 then msb_entered g c s v else
-    if eqb n 32 then channel_step (bank_lsb_held s v) Nothing else
-    if eqb n 38 then lsb_entered g c s v else
-    if eqb n 121 then channel_step (controllers_reset s) (passed_on g c 0xB n v) else
-    if ltb n 98 then channel_step s (passed_on g c 0xB n v) else
-    if ltb 101 n then channel_step s (passed_on g c 0xB n v) else
+    when eqb n 0 then channel_step (bank_msb_held s v) Nothing else
+    when eqb n 6 then msb_entered g c s v else
+    when eqb n 32 then channel_step (bank_lsb_held s v) Nothing else
+    when eqb n 38 then lsb_entered g c s v else
+    when eqb n 121 then channel_step (controllers_reset s) (passed_on g c 0xB n v) else
+    when ltb n 98 then channel_step s (passed_on g c 0xB n v) else
+    when ltb 101 n then channel_step s (passed_on g c 0xB n v) else
     channel_step (selected (pending_sent s) n v) (pending_words g c s)
 
 -- a program change carries the held bank, with Bank Valid, and the bank is held no longer (D.3.4)
@@ -103,8 +103,8 @@ bank_words g c s program =
 
 unfoldable pub program_words : ℕ → ℕ → ChannelState → ℕ → Translation
 program_words g c s program =
-    if eqb s.bank_msb 0 then
-    (if eqb s.bank_lsb 0 then Words (first_word g 0xC c 0 0) (program * 2 ^ 24) else bank_words g c s program)
+    when eqb s.bank_msb 0 then
+    (when eqb s.bank_lsb 0 then Words (first_word g 0xC c 0 0) (program * 2 ^ 24) else bank_words g c s program)
     else bank_words g c s program
 
 -- a note with a velocity of 16 bits (D.3.1, D.3.2)
@@ -114,13 +114,13 @@ note_words g c opcode note velocity = Words (first_word g opcode c note 0) (velo
 -- a message of group g and channel c, by its opcode and data bytes; Note On with velocity 0 is Note Off with velocity 0x8000 (D.3.1)
 unfoldable pub message_translated : ℕ → ℕ → ChannelState → ℕ → ℕ → ℕ → Stepped
 message_translated g c s opcode a b =
-    if eqb opcode 0x8 then channel_step s (note_words g c 0x8 a (widened 7 16 b)) else
-    if eqb opcode 0x9 then
-    (if eqb b 0 then channel_step s (note_words g c 0x8 a 0x8000) else channel_step s (note_words g c 0x9 a (widened 7 16 b))) else
-    if eqb opcode 0xA then channel_step s (passed_on g c 0xA a b) else
-    if eqb opcode 0xB then control_changed g c s a b else
-    if eqb opcode 0xC then channel_step (bank_sent s) (program_words g c s a) else
-    if eqb opcode 0xD then channel_step s (passed_on g c 0xD 0 a) else
+    when eqb opcode 0x8 then channel_step s (note_words g c 0x8 a (widened 7 16 b)) else
+    when eqb opcode 0x9 then
+    (when eqb b 0 then channel_step s (note_words g c 0x8 a 0x8000) else channel_step s (note_words g c 0x9 a (widened 7 16 b))) else
+    when eqb opcode 0xA then channel_step s (passed_on g c 0xA a b) else
+    when eqb opcode 0xB then control_changed g c s a b else
+    when eqb opcode 0xC then channel_step (bank_sent s) (program_words g c s a) else
+    when eqb opcode 0xD then channel_step s (passed_on g c 0xD 0 a) else
     channel_step s (Words (first_word g 0xE c 0 0) (widened 14 32 (joined_value b a)))
 
 -- the record with another state of a channel
@@ -135,17 +135,17 @@ word_step r w =
 -- what `translate_words` answers and leaves: out of range for a record or a word that is not allowed, and then the record stays
 abbrev pub translation_of : Midi1ToMidi2Group → ℕ → Outcome (List ℕ)
 translation_of r w =
-    if record_allowed r then (if word_form w then translation_read (word_step r w).reply else out_of_range) else out_of_range
+    when record_allowed r then (when word_form w then translation_read (word_step r w).reply else out_of_range) else out_of_range
 
 abbrev pub record_after : Midi1ToMidi2Group → ℕ → Midi1ToMidi2Group
 record_after r w =
-    if record_allowed r then (if word_form w then with_state r (channel_of w) (word_step r w).state else r) else r
+    when record_allowed r then (when word_form w then with_state r (channel_of w) (word_step r w).state else r) else r
 
 -- what `flush` answers and leaves: the pending entry of a channel, group and channel taken modulo 16
 abbrev pub flush_reply : Midi1ToMidi2Group → ℕ → ℕ → Outcome (List ℕ)
 flush_reply r g c =
-    if record_allowed r then translation_read (pending_words (packet_value g) (packet_value c) (state_on r (packet_value c))) else out_of_range
+    when record_allowed r then translation_read (pending_words (packet_value g) (packet_value c) (state_on r (packet_value c))) else out_of_range
 
 abbrev pub flushed_record : Midi1ToMidi2Group → ℕ → ℕ → Midi1ToMidi2Group
 flushed_record r g c =
-    if record_allowed r then with_state r (packet_value c) (pending_sent (state_on r (packet_value c))) else r
+    when record_allowed r then with_state r (packet_value c) (pending_sent (state_on r (packet_value c))) else r

@@ -6,7 +6,7 @@ use Prim.Native.Nat.{ℕ, ◌/◌, ◌%◌, ◌<◌}
 use native.Mathlib.Omega.{arith}
 use lib.Dec.{ltb, eqb}
 use borrow.Author.Tests.{eqb-true}
-use Rattle.ump.specs.Choice.{if◌then◌else◌}
+use Rattle.ump.specs.Choice.{when◌then◌else◌}
 use Rattle.ump.proofs.Cases.{both}
 use Rattle.ump.proofs.Below.{every_below, at}
 use Rattle.translate_state.specs.State.{pending_in, null_after_in, with_kind, with_pending, without_pending, with_null_after, without_null_after, flags_allowed}
@@ -63,7 +63,7 @@ reset-at-once f a p = carried (λ g. not (pending_in g)) without_null_after refl
 
 -- once the pending entry is sent, the flags are a kind alone
 abbrev pub sent_flags : ℕ → ℕ
-sent_flags f = if pending_in f then (if null_after_in f then without_null_after (without_pending f) else without_pending f) else f
+sent_flags f = when pending_in f then (when null_after_in f then without_null_after (without_pending f) else without_pending f) else f
 
 pub kind-alone : (f : ℕ) → flags_allowed f ≡ true → sent_flags f / 4 ≡ 0
 kind-alone f a =

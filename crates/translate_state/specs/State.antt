@@ -1,6 +1,6 @@
 -- What is carried from one message to the next: for each of sixteen channels eight bytes (M2-104 D.3.3, D.3.4; RP-015; document 02, 2026-02).
 use Rattle.std.specs.Prelude.{ℕ, zero, suc, ◌+◌, ◌-◌, ◌*◌, ◌/◌, ◌%◌, ◌^◌, Bool, true, false, ◌&&◌, ◌||◌, List, ltb, leb, eqb, get_or, replicate}
-use Rattle.ump.specs.Choice.{if◌then◌else◌}
+use Rattle.ump.specs.Choice.{when◌then◌else◌}
 use Rattle.ump.specs.Field.{field}
 use Rattle.translate_state.specs.declared.ChannelState.{ChannelState}
 use Rattle.translate_state.specs.declared.Midi1ToMidi2Group.{Midi1ToMidi2Group}
@@ -22,10 +22,10 @@ abbrev pub bit_in : ℕ → ℕ → Bool
 bit_in k f = eqb (field k 1 f) 1
 
 abbrev pub with_bit : ℕ → ℕ → ℕ
-with_bit k f = if bit_in k f then f else f + 2 ^ k
+with_bit k f = when bit_in k f then f else f + 2 ^ k
 
 abbrev pub without_bit : ℕ → ℕ → ℕ
-without_bit k f = if bit_in k f then f - 2 ^ k else f
+without_bit k f = when bit_in k f then f - 2 ^ k else f
 
 -- bit 2: a Data Entry MSB is held that was not sent
 abbrev pub pending_in : ℕ → Bool
@@ -93,21 +93,21 @@ selection_nulled s f =
 -- the pending entry is sent: nothing is pending, and the selection is null where a reset was noted (RP-015)
 unfoldable pub pending_sent : ChannelState → ChannelState
 pending_sent s =
-    if pending_in s.flags then
-    (if null_after_in s.flags then selection_nulled s (without_pending s.flags) else with_entry s s.data_msb (without_pending s.flags))
+    when pending_in s.flags then
+    (when null_after_in s.flags then selection_nulled s (without_pending s.flags) else with_entry s s.data_msb (without_pending s.flags))
     else s
 
 -- 98 to 101 store half a number
 abbrev pub number_held : ChannelState → ℕ → ℕ → ChannelState
 number_held s n v =
-    if eqb n 101 then with_held_rpn s (held v) s.rpn_lsb else
-    if eqb n 100 then with_held_rpn s s.rpn_msb (held v) else
-    if eqb n 99 then with_held_nrpn s (held v) s.nrpn_lsb else
+    when eqb n 101 then with_held_rpn s (held v) s.rpn_lsb else
+    when eqb n 100 then with_held_rpn s s.rpn_msb (held v) else
+    when eqb n 99 then with_held_nrpn s (held v) s.nrpn_lsb else
     with_held_nrpn s s.nrpn_msb (held v)
 
 -- 101 and 100 select a registered parameter, 99 and 98 an assignable one
 abbrev pub kind_of_number : ℕ → ℕ
-kind_of_number n = if eqb n 101 then 1 else if eqb n 100 then 1 else 2
+kind_of_number n = when eqb n 101 then 1 else when eqb n 100 then 1 else 2
 
 -- 98 to 101: the number is stored, its kind selected, and no Data Entry MSB is held (D.3.3)
 unfoldable pub selected : ChannelState → ℕ → ℕ → ChannelState
@@ -116,7 +116,7 @@ selected s n v = with_entry (number_held s n v) 0 (with_kind s.flags (kind_of_nu
 -- the MPE Configuration Message, RPN 0/6, is selected (M1-100 2.2.1)
 unfoldable pub mcm_selected : ChannelState → Bool
 mcm_selected s =
-    if eqb (kind_in s.flags) 1 then (if eqb s.rpn_msb (held 0) then eqb s.rpn_lsb (held 6) else false) else false
+    when eqb (kind_in s.flags) 1 then (when eqb s.rpn_msb (held 0) then eqb s.rpn_lsb (held 6) else false) else false
 
 -- 6: a Data Entry MSB is held, pending
 unfoldable pub entry_held : ChannelState → ℕ → ChannelState
@@ -129,7 +129,7 @@ completed s = with_entry s s.data_msb (without_pending s.flags)
 -- 121: both numbers become null, or, where a value is pending, once it is sent (RP-015)
 unfoldable pub controllers_reset : ChannelState → ChannelState
 controllers_reset s =
-    if pending_in s.flags then with_entry s s.data_msb (with_null_after s.flags) else selection_nulled s s.flags
+    when pending_in s.flags then with_entry s s.data_msb (with_null_after s.flags) else selection_nulled s s.flags
 
 -- 0 and 32 are held for the next program change, and an MSB sets the held LSB to 0 (D.3.4; MIDI 1.0 4.2.1)
 abbrev pub bank_msb_held : ChannelState → ℕ → ChannelState

@@ -1,6 +1,6 @@
 -- Registered Parameter Numbers (MIDI 1.0, Table IIIa; RP-018).
 use Rattle.std.specs.Prelude.{ℕ, ◌%◌, eqb}
-use Rattle.ump.specs.Choice.{if◌then◌else◌}
+use Rattle.ump.specs.Choice.{when◌then◌else◌}
 use Rattle.ump.specs.declared.controller.Rpn.{Rpn}
 use Rattle.ump.specs.declared.controller.Rpn.TheVariants.{PitchBendSensitivity, FineTuning, CoarseTuning, TuningProgramSelect, TuningBankSelect, ModulationDepthRange, Null, Other}
 use Rattle.ump.specs.declared.controller.Parts.{Parts}
@@ -26,10 +26,10 @@ rpn_parts r = parts_of ((rpn_given r).msb % 128) ((rpn_given r).lsb % 128)
 -- the one with these 7-bit numbers
 unfoldable pub rpn_numbered : ℕ → ℕ → Rpn
 rpn_numbered m l =
-    if eqb m 0x7F then (if eqb l 0x7F then Null else Other m l) else
-    if eqb m 0 then
-    (if eqb l 0 then PitchBendSensitivity else if eqb l 1 then FineTuning else if eqb l 2 then CoarseTuning else
-    if eqb l 3 then TuningProgramSelect else if eqb l 4 then TuningBankSelect else if eqb l 5 then ModulationDepthRange else
+    when eqb m 0x7F then (when eqb l 0x7F then Null else Other m l) else
+    when eqb m 0 then
+    (when eqb l 0 then PitchBendSensitivity else when eqb l 1 then FineTuning else when eqb l 2 then CoarseTuning else
+    when eqb l 3 then TuningProgramSelect else when eqb l 4 then TuningBankSelect else when eqb l 5 then ModulationDepthRange else
     Other m l)
     else Other m l
 

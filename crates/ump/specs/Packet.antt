@@ -1,6 +1,6 @@
 -- Groups and channels (M2-104 2.1.2): packet values 0 to 15, user-facing numbers 1 to 16.
 use Rattle.std.specs.Prelude.{ℕ, ◌-◌, ◌%◌, ltb, eqb}
-use Rattle.ump.specs.Choice.{if◌then◌else◌}
+use Rattle.ump.specs.Choice.{when◌then◌else◌}
 use Rattle.ump.specs.Outcome.{Outcome, given, out_of_range}
 use Rattle.ump.specs.declared.packet.MadeGroup.{MadeGroup}
 use Rattle.ump.specs.declared.packet.MadeGroup.TheVariants as made_group
@@ -22,8 +22,8 @@ packet_value v = v % 16
 
 -- a packet value, refused above 15
 abbrev pub from_index : ℕ → Outcome ℕ
-from_index i = if ltb 0xF i then out_of_range else given i
+from_index i = when ltb 0xF i then out_of_range else given i
 
 -- a user-facing number, refused outside 1 to 16
 abbrev pub from_number : ℕ → Outcome ℕ
-from_number n = if eqb n 0 then out_of_range else if ltb 16 n then out_of_range else given (n - 1)
+from_number n = when eqb n 0 then out_of_range else when ltb 16 n then out_of_range else given (n - 1)

@@ -1,6 +1,6 @@
 -- The word of a MIDI 1.0 channel voice message (M2-104 7.3, Table 28; document 01, "A byte arrives").
 use Rattle.std.specs.Prelude.{ℕ, ◌+◌, ◌*◌, ◌/◌, ◌%◌, ◌^◌, Bool, true, ◌&&◌, ◌||◌, ltb, leb, eqb, List, [], ◌∷◌}
-use Rattle.ump.specs.Choice.{if◌then◌else◌}
+use Rattle.ump.specs.Choice.{when◌then◌else◌}
 use Rattle.ump.specs.Outcome.{Outcome, given, out_of_range}
 use Rattle.ump.specs.Field.{field}
 use Rattle.ump.specs.declared.channel_voice1.Message.{Message}
@@ -37,7 +37,7 @@ one_data opcode = eqb opcode 0xC || eqb opcode 0xD
 unfoldable pub form_of : ℕ → ℕ → ℕ → ℕ → ℕ → Bool
 form_of type above-first above-second opcode second =
     eqb type 2 && (eqb above-first 0 && (eqb above-second 0 && (leb 0x8 opcode && (leb opcode 0xE &&
-    (if one_data opcode then eqb second 0 else true)))))
+    (when one_data opcode then eqb second 0 else true)))))
 
 -- type 2, any group, opcode 8 to E; the bits above the data bytes 0, and no second data byte where there is one only
 unfoldable pub word_form : ℕ → Bool
@@ -69,15 +69,15 @@ four_made four.OutOfRange = out_of_range
 -- a message of two 7-bit data bytes, of one, and of one 14-bit value
 unfoldable pub two_data_word : ℕ → ℕ → ℕ → ℕ → ℕ → Outcome ℕ
 two_data_word opcode group channel a b =
-    if ltb 0x7F a then out_of_range else if ltb 0x7F b then out_of_range else given (word_of group opcode channel a b)
+    when ltb 0x7F a then out_of_range else when ltb 0x7F b then out_of_range else given (word_of group opcode channel a b)
 
 unfoldable pub one_data_word : ℕ → ℕ → ℕ → ℕ → Outcome ℕ
 one_data_word opcode group channel a =
-    if ltb 0x7F a then out_of_range else given (word_of group opcode channel a 0)
+    when ltb 0x7F a then out_of_range else given (word_of group opcode channel a 0)
 
 unfoldable pub bend_word : ℕ → ℕ → ℕ → Outcome ℕ
 bend_word group channel value =
-    if ltb 0x3FFF value then out_of_range else given (word_of group 0xE channel (value % 2 ^ 7) (value / 2 ^ 7))
+    when ltb 0x3FFF value then out_of_range else given (word_of group 0xE channel (value % 2 ^ 7) (value / 2 ^ 7))
 
 -- a Control Change of group 0; the channel is taken modulo 16
 abbrev pub control_change : ℕ → ℕ → ℕ → Outcome ℕ

@@ -11,7 +11,7 @@ use lib.Dec.{ltb, eqb}
 use lib.ListN.{length, take, drop, length-drop}
 use lib.Seq.{take_at, drop_at, take_all, take-append-le, drop-append-le}
 use borrow.Author.Tests.{ne_eqb, le-ltb, lt-ltb}
-use Rattle.ump.specs.Choice.{if◌then◌else◌}
+use Rattle.ump.specs.Choice.{when◌then◌else◌}
 use Rattle.ump.specs.Outcome.{Outcome, given, out_of_range, too_small}
 use Rattle.mpe_layout.specs.Layout.{legal, members_of, manager_of, lowest_of}
 use Rattle.mpe_layout.specs.declared.MpeZone.{MpeZone}
@@ -56,7 +56,7 @@ words-in-order l zone a b =
 
 -- a count is what is needed
 counted : (a b c d e : Bool) (needed got n : ℕ)
-    → (if a then (if b then out_of_range else (if c then (if d then (if e then too_small needed got else given needed) else out_of_range) else out_of_range)) else out_of_range) ≡ given n
+    → (when a then (when b then out_of_range else (when c then (when d then (when e then too_small needed got else given needed) else out_of_range) else out_of_range)) else out_of_range) ≡ given n
     → n ≡ needed
 counted true true c d e needed got n h = absurd (let z : ◌≡◌ {A = ℕ} 0 1 = cc in omega arith)
 counted true false true true true needed got n h = absurd (let z : ◌≡◌ {A = ℕ} 0 1 = cc in omega arith)

@@ -1,6 +1,6 @@
 -- The sensitivity messages of a whole zone (M1-100 2.2.5), and the buffer that they are written to.
 use Rattle.std.specs.Prelude.{ℕ, zero, suc, ◌+◌, ◌*◌, ◌-◌, ◌<◌, ◌≤◌, true, ◌≡◌, List, [], ◌++◌, ltb, eqb, length, drop}
-use Rattle.ump.specs.Choice.{if◌then◌else◌}
+use Rattle.ump.specs.Choice.{when◌then◌else◌}
 use Rattle.ump.specs.Outcome.{Outcome, given, declined, out_of_range, too_small}
 use Rattle.mpe_layout.specs.Layout.{members_of, manager_of, lowest_of}
 use Rattle.mpe_layout.specs.declared.MpeZone.{MpeZone}
@@ -18,11 +18,11 @@ group_size = length (sensitivity_group 0 manager_default)
 
 -- the channels of a zone: the manager, then the members rising
 unfoldable pub channel_at : ℕ → ℕ → ℕ → ℕ
-channel_at manager lowest k = if eqb k 0 then manager else lowest + (k - 1)
+channel_at manager lowest k = when eqb k 0 then manager else lowest + (k - 1)
 
 -- their sensitivities: the manager's, then the members'
 unfoldable pub sensitivity_at_place : MpeSensitivity → MpeSensitivity → ℕ → MpeSensitivity
-sensitivity_at_place manager member k = if eqb k 0 then manager else member
+sensitivity_at_place manager member k = when eqb k 0 then manager else member
 
 abbrev pub zone_groups : ℕ → ℕ → MpeSensitivity → MpeSensitivity → ZoneGroups
 zone_groups manager lowest a b = record { manager = manager; lowest = lowest; at_manager = a; at_member = b }
@@ -54,7 +54,7 @@ unfoldable pub fill_reply : ℕ → MpeSensitivity → MpeSensitivity → ℕ �
 fill_reply members manager member got =
     of_allowed manager
     (of_allowed member
-    (if ltb got (group_size * (members + 1)) then too_small (group_size * (members + 1)) got else
+    (when ltb got (group_size * (members + 1)) then too_small (group_size * (members + 1)) got else
     given (group_size * (members + 1))))
 
 abbrev pub zone_reply : MpeLayout → MpeZone → MpeSensitivity → MpeSensitivity → ℕ → Outcome ℕ

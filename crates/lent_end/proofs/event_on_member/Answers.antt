@@ -3,7 +3,7 @@ use borrow.Author.Rules.{rules}
 use mathlib.Core.Path.{◌≡◌, refl}
 use mathlib.Core.Bool.{true, false}
 use lib.Dec.{eqb}
-use Rattle.ump.specs.Choice.{if◌then◌else◌}
+use Rattle.ump.specs.Choice.{when◌then◌else◌}
 use Rattle.ump.proofs.Cases.{of-both}
 use Rattle.mpe_event.specs.declared.MpeEvent.TheVariants.{Zone}
 use Rattle.mpe_event.specs.Update.{mode_event, on_member}
@@ -22,7 +22,7 @@ pub returns-then-opcode-eq11 : goal.returns-then-opcode-eq11
 unfolding on_member
 returns-then-opcode-eq11 c =
     let a = c.args in
-    let same : Zone a.zone false ≡ (if eqb a.first 126 then mode_event a.zone false else if eqb a.first 127 then mode_event a.zone false else Zone a.zone false) =
+    let same : Zone a.zone false ≡ (when eqb a.first 126 then mode_event a.zone false else when eqb a.first 127 then mode_event a.zone false else Zone a.zone false) =
     of-both (λ x. Zone a.zone false ≡ x) (eqb a.first 126) refl (of-both (λ x. Zone a.zone false ≡ x) (eqb a.first 127) refl refl) in
     let control : eqb a.opcode 0xB ≡ true = search auto in
     let zero : eqb a.first 0 ≡ false = search auto in

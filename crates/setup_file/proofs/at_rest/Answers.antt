@@ -5,14 +5,14 @@ use mathlib.Core.Bool.{false}
 use native.Mathlib.Omega.{arith}
 use lib.Dec.{eqb}
 use borrow.Author.Tests.{eq-eqb, ne_eqb, eqb-true}
-use Rattle.ump.specs.Choice.{if◌then◌else◌}
+use Rattle.ump.specs.Choice.{when◌then◌else◌}
 use Rattle.ump.proofs.Cases.{by-test}
 use Rattle.setup_file.specs.Format.{at_rest}
 use Rattle.setup_file.proofs.at_rest.Goals as goal
 
 -- the halves of a bend are at rest exactly at 0x2000
 bend-rest : (bend pressure brightness : ℕ) → bend ≡ 0x2000
-    → at_rest (bend / 2 ^ 7) (bend % 2 ^ 7) pressure brightness ≡ (if eqb pressure 0 then eqb brightness 64 else false)
+    → at_rest (bend / 2 ^ 7) (bend % 2 ^ 7) pressure brightness ≡ (when eqb pressure 0 then eqb brightness 64 else false)
 unfolding at_rest
 bend-rest bend pressure brightness e = rw e
 
