@@ -16,7 +16,6 @@ use Rattle.mpe_event.specs.declared.AnnouncedZone.TheVariants.{Announced, NoneAn
 use Rattle.mpe_event.specs.declared.Decoded.{Decoded}
 use Rattle.mpe_event.specs.declared.Decoded.TheVariants.{Nothing, Configuration, BendSensitivity}
 use Rattle.mpe_event.specs.declared.ZonesUpdate.{ZonesUpdate}
-
 use Rattle.mpe_zones.specs.declared.Zones.{Zones}
 use Rattle.mpe_event.specs.Update.{announced, configured_by, configured_as, announced_on, sensitivity_update, mode_set, decoded, updated_as, message_update}
 use Rattle.mpe_zones.specs.Zones.{role_held}

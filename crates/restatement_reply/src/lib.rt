@@ -118,6 +118,7 @@ fn byte_count(layout: MpeLayout) -> usize
 }
 
 // What a writer answers that needs so many elements: settings outside their limits are out of range; then a short buffer is too small.
+#[tactic(auto, unfolding(settings::specs::Messages::restated_reply))]
 fn restated_reply(settings: Settings, needed: usize, got: usize) -> Written
     ensures { written_read result ≡ restated_reply settings needed got }
 {

@@ -1,7 +1,5 @@
 -- `byte_call::message_at` meets its contract.
-use borrow.Author.Rules.{rules}
 use mathlib.Core.Path.{ap, ◌∙◌}
-use native.Mathlib.Omega.{arith}
 use Rattle.mpe_receiver.specs.Receive.{receiver_reply, receiver_after}
 use Rattle.receiving_end.specs.declared.end.Reply.TheVariants.{Message}
 use Rattle.receiving_end.specs.End.{with_receiver, with_parameter, event_in, mpe_in, stepped, message_at}

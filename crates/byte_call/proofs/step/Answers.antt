@@ -1,5 +1,4 @@
 -- `byte_call::step` meets its contract.
-use borrow.Author.Rules.{rules}
 use Rattle.receiving_end.specs.End.{step_of}
 use Rattle.receiving_end.specs.Lists.{replied}
 use mathlib.Core.Path.{◌≡◌, ap, sym}

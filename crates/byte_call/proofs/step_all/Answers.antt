@@ -1,9 +1,7 @@
 -- `byte_call::step_all` meets its contract.
-use borrow.Author.Rules.{rules}
-use Prim.Native.Nat.{◌≤◌, ◌-◌}
-use mathlib.Core.Path.{◌≡◌, refl, ap, ◌∙◌}
+use Prim.Native.Nat.{◌-◌}
+use mathlib.Core.Path.{refl, ap, ◌∙◌}
 use native.Mathlib.Omega.{arith}
-use lib.ListN.{length, take}
 use lib.Seq.{take_all}
 use Rattle.receiving_end.specs.Lists.{after_bytes}
 use Rattle.receiving_end.proofs.Bytes.{one-byte-more, bytes-are-calls}
@@ -23,7 +21,7 @@ pub returns : goal.returns
 returns c =
     let a = c.args in
     let all = c.loop-i.invariant.1 ∙ ap (λ l. after_bytes a.end l) (take_all c.loop-i.i a.bytes.now (omega arith)) in
-     record {
+    record {
       is = all;
       calls = all ∙ bytes-are-calls a.end a.bytes.now;
     }

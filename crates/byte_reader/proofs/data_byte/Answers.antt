@@ -1,8 +1,6 @@
 -- `byte_reader::data_byte` meets its contract.
-use borrow.Author.Rules.{rules}
 use Rattle.ump.proofs.Auto.{auto}
 use Rattle.byte_reader.specs.Reader.{data_step}
-use borrow.Author.Rules.{rules}
 use Rattle.ump.proofs.Auto.{auto}
 use Rattle.byte_reader.specs.Reader.{data_step}
 use Rattle.byte_reader.proofs.data_byte.Goals as goal

@@ -1,5 +1,4 @@
 -- `mpe_allocator::wins_tie` meets its contract: the definition at each zone.
-use Rattle.std.proofs.Common.{rules}
 use Rattle.mpe_allocator.specs.Choice.{tie_first}
 use Rattle.mpe_allocator.proofs.wins_tie.Goals as goal
 

@@ -1,5 +1,4 @@
 -- `mpe_event::event_on_member` meets its contract: each return is a case of `on_member`.
-use borrow.Author.Rules.{rules}
 use Rattle.mpe_event.specs.Update.{on_member}
 use Rattle.ump.proofs.Auto.{auto}
 use Rattle.mpe_event.proofs.event_on_member.Goals as goal

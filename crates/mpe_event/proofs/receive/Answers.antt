@@ -1,5 +1,4 @@
 -- `mpe_event::receive` meets its contract: a word of the form of a message updates the zones, and no other.
-use borrow.Author.Rules.{rules}
 use mathlib.Core.Path.{ap, sym, ◌∙◌}
 use Rattle.ump.specs.Outcome.{given}
 use Rattle.mpe_event.specs.Update.{message_update}
@@ -12,7 +11,7 @@ returns-then-is_message c =
     let t = sym c.is_message.ensures ∙ c.if-is_message.true in
     let is = c.update-u.ensures
     ∙ (λ i. message_update a.zones a.parameter (c.opcode.ensures i) (c.channel.ensures i) (c.first_data.ensures i)) in
-     record {
+    record {
       reply = rw t (ap (λ x. given x.event) is);
       zones = rw t (ap (λ x. x.zones) is);
       cases = receiver-cases;
@@ -21,7 +20,7 @@ returns-then-is_message c =
 pub returns : goal.returns
 returns c =
     let t = sym c.is_message.ensures ∙ c.if-is_message.false in
-     record {
+    record {
       reply = rw t;
       zones = rw t;
       cases = receiver-cases;

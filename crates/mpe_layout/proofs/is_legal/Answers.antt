@@ -1,5 +1,4 @@
 -- `mpe_layout::is_legal` meets its contract: each return is a case of the bounds.
-use borrow.Author.Rules.{rules}
 use Rattle.ump.proofs.Auto.{auto}
 use Rattle.mpe_layout.specs.Layout.{legal_counts}
 use Rattle.mpe_layout.proofs.is_legal.Goals as goal

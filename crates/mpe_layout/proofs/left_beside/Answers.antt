@@ -1,5 +1,4 @@
 -- `mpe_layout::left_beside` meets its contract: each return is a case of what is left.
-use borrow.Author.Rules.{rules}
 use Rattle.ump.proofs.Auto.{auto}
 use Rattle.mpe_layout.specs.Layout.{left_beside}
 use Rattle.mpe_layout.proofs.left_beside.Goals as goal

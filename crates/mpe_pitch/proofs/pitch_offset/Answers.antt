@@ -2,7 +2,6 @@
 use mathlib.Core.Path.{◌≡◌, ◌∙◌, sym, subst}
 use Prim.Native.Nat.{ℕ, ◌*◌, ◌-◌, ◌<◌, ◌≤◌, ◌^◌, ◌%◌}
 use native.Mathlib.Omega.{arith}
-use borrow.Author.Rules.{rules}
 use borrow.Author.Tests.{lt-ltb, le-ltb}
 use lib.Bits.{and_mask}
 use lib.IntN.{ℤ, pos, neg_ℤ}
@@ -11,7 +10,7 @@ use mir.ValLaws.{to_z_pos}
 use Rattle.mpe_pitch.specs.declared.MpeSensitivity.{MpeSensitivity}
 use Rattle.mpe_pitch.specs.Pitch.{nearest, apart, range_of, offset_in, pitch_offset}
 use Rattle.mpe_pitch.specs.Claims.{OffsetNearest, NoTie, OffsetWithin, OffsetRises}
-use Rattle.mpe_pitch.proofs.Sign.{minus-fits, minus-back}
+use Rattle.mpe_pitch.proofs.Sign.{minus-back}
 use Rattle.mpe_pitch.proofs.Offset.{offset-nearest, no_tie, offset-within, offset-rises}
 use Rattle.mpe_pitch.proofs.pitch_offset.Goals as goal
 

@@ -2,7 +2,6 @@
 use mathlib.Core.Path.{◌≡◌, ◌∙◌, sym, subst}
 use Prim.Native.Nat.{ℕ, ◌*◌, ◌-◌, ◌<◌, ◌≤◌, ◌^◌, ◌%◌}
 use native.Mathlib.Omega.{arith}
-use borrow.Author.Rules.{rules}
 use borrow.Author.Tests.{lt-ltb, le-ltb}
 use lib.Bits.{and_mask}
 use lib.IntN.{ℤ, neg_ℤ}
@@ -14,7 +13,7 @@ use Rattle.mpe_pitch.specs.Pitch.{apart, range_of, pitch_offset}
 use Rattle.mpe_pitch.specs.Remainder.{pitch_remainder, offset_with_remainder}
 use Rattle.mpe_pitch.specs.Claims.{IsPair, OnlyPair}
 use Rattle.mpe_pitch.proofs.Offset.{offset-back}
-use Rattle.mpe_pitch.proofs.Remainder.{over, small-fits, negated_fits, negated_back, remainder_is, is-pair, only-pair}
+use Rattle.mpe_pitch.proofs.Remainder.{over, small-fits, negated_back, remainder_is, is-pair, only-pair}
 use Rattle.mpe_pitch.proofs.pitch_offset_with_remainder.Goals as goal
 
 -- the remainder of the magnitude, at a value v cut to 14 bits
@@ -40,9 +39,9 @@ returns-then-v-lt8192 c =
     let z = c.remainder_over_8191-r.result in
     let e = (let z : c.remainder_over_8191-r.result ≡ over (range_of c.args.sensitivity * (8192 - c.args.value % 2 ^ 14)) = c.remainder_over_8191-r.ensures.0 ∙ (λ i. over (c.units-d.ensures.0 i * (8192 - and_mask c.args.value 14 i))) in z) in
     let p = let small : a.value % 2 ^ 14 < 8192 = omega (arith, and_mask a.value 14) in
-          whole a.value a.sensitivity _ _
-          (offset-back _ a.value a.sensitivity c.pitch_offset-offset.ensures.is)
-          (negated_back z c.remainder_over_8191-r.ensures.1 ∙ below a.value a.sensitivity z small e) in
+    whole a.value a.sensitivity _ _
+    (offset-back _ a.value a.sensitivity c.pitch_offset-offset.ensures.is)
+    (negated_back z c.remainder_over_8191-r.ensures.1 ∙ below a.value a.sensitivity z small e) in
     record { is = p.0; pair = p.1.0; only = p.1.1 }
 
 pub returns : goal.returns
@@ -51,7 +50,7 @@ returns c =
     let z = c.remainder_over_8191-remainder.result in
     let e = (let z : c.remainder_over_8191-remainder.result ≡ over (range_of c.args.sensitivity * (c.args.value % 2 ^ 14 - 8192)) = c.remainder_over_8191-remainder.ensures.0 ∙ (λ i. over (c.units-d.ensures.0 i * (and_mask c.args.value 14 i - 8192))) in z) in
     let p = let large : 8192 ≤ a.value % 2 ^ 14 = omega (arith, and_mask a.value 14) in
-          whole a.value a.sensitivity _ _
-          (offset-back _ a.value a.sensitivity c.pitch_offset-offset.ensures.is)
-          (to_z-of_z w32 z (small-fits z c.remainder_over_8191-remainder.ensures.1) ∙ above a.value a.sensitivity z large e) in
+    whole a.value a.sensitivity _ _
+    (offset-back _ a.value a.sensitivity c.pitch_offset-offset.ensures.is)
+    (to_z-of_z w32 z (small-fits z c.remainder_over_8191-remainder.ensures.1) ∙ above a.value a.sensitivity z large e) in
     record { is = p.0; pair = p.1.0; only = p.1.1 }

@@ -1,15 +1,12 @@
 -- `mpe_pitch::remainder_over_8191` meets its contract: the rest of d times m is that of its small part, and above 4095 it lacks to the next multiple.
 use mathlib.Core.Path.{◌≡◌, ◌∙◌, sym}
 use Prim.Native.Nat.{ℕ, ◌-◌, ◌*◌, ◌%◌}
-use native.Mathlib.Nat.{lt_of_le_of_lt, mul-le-mul}
 use native.Mathlib.Omega.{arith}
-use borrow.Author.Rules.{rules}
-use lib.Dec.{lit<}
 use lib.IntN.{ℤ}
 use mir.Syntax.{w32}
 use mir.ValLaws.{to_z_pos}
 use Rattle.mpe_pitch.specs.Claims.{Within}
-use Rattle.mpe_pitch.proofs.Sign.{minus-fits, minus-back}
+use Rattle.mpe_pitch.proofs.Sign.{minus-back}
 use Rattle.mpe_pitch.proofs.Remainder.{over, over-within, small-rest, large-rest, rest_of}
 use Rattle.mpe_pitch.proofs.remainder_over_8191.Goals as goal
 

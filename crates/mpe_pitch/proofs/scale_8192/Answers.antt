@@ -2,7 +2,6 @@
 use mathlib.Core.Path.{◌∙◌, sym, ap}
 use Prim.Native.Nat.{ℕ, ◌+◌, ◌*◌, ◌/◌, ◌%◌, ◌<◌, ◌≤◌}
 use native.Mathlib.Omega.{arith}
-use borrow.Author.Rules.{rules}
 use Rattle.mpe_pitch.specs.Pitch.{nearest}
 use Rattle.mpe_pitch.proofs.Round.{a, b, a-fits, b-fits, high_fits, high, low, last, whole, rounds-up, rounds-down}
 use Rattle.mpe_pitch.proofs.scale_8192.Goals as goal

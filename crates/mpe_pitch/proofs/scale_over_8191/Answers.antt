@@ -1,9 +1,7 @@
 -- `mpe_pitch::scale_over_8191` meets its contract: the product over 8191, by the quotient and the remainder of d.
 use Prim.Native.Nat.{ℕ, ◌≤◌, ◌+◌, ◌*◌, ◌/◌}
-use native.Mathlib.Nat.{le_refl, le_trans, lt_of_le_of_lt, add-le-add, mul-le-mul, div-le_self}
-use lib.Dec.{lit<}
+use native.Mathlib.Nat.{le_trans, add-le-add, mul-le-mul, div-le_self}
 use native.Mathlib.Omega.{arith}
-use borrow.Author.Rules.{rules}
 use Rattle.mpe_pitch.proofs.Round.{up, down}
 use Rattle.mpe_pitch.proofs.scale_over_8191.Goals as goal
 

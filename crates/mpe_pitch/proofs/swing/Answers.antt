@@ -1,6 +1,5 @@
 -- `mpe_pitch::swing` meets its contract: from d on the quotient is at least 8192.
 use native.Mathlib.Omega.{arith}
-use borrow.Author.Rules.{rules}
 use Rattle.mpe_pitch.proofs.Round.{full}
 use Rattle.mpe_pitch.proofs.swing.Goals as goal
 

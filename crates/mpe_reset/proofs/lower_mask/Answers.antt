@@ -1,5 +1,4 @@
 -- `mpe_reset::lower_mask` meets its contract: no member, or the law of the mask of Lower.
-use borrow.Author.Rules.{rules}
 use Rattle.ump.proofs.Auto.{auto}
 use Rattle.mpe_reset.proofs.Masks.{lower-is}
 use Rattle.mpe_reset.proofs.lower_mask.Goals as goal

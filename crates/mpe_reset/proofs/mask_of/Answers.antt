@@ -1,6 +1,5 @@
 -- `mpe_reset::mask_of` meets its contract: the law of the masks of the zones, by the kind of change.
 use native.Mathlib.Omega.{arith}
-use borrow.Author.Rules.{rules}
 use Rattle.mpe_layout.specs.declared.MpeZone.TheVariants.{Lower, Upper}
 use Rattle.mpe_layout.proofs.Legal.{members-le}
 use Rattle.mpe_reset.specs.declared.Change.TheVariants.{Announced, Set}

@@ -2,7 +2,6 @@
 use mathlib.Core.Path.{ap, ◌∙◌}
 use Prim.Native.Nat.{◌%◌}
 use lib.Dec.{eqb}
-use borrow.Author.Rules.{rules}
 use Rattle.ump.proofs.Cut.{cut}
 use Rattle.mpe_reset.specs.Reset.{hit_by, named}
 use Rattle.mpe_reset.proofs.Named.{mask-named}
@@ -12,7 +11,7 @@ pub returns : goal.returns
 returns c =
     let a = c.args in
     let bit = ap (λ x. eqb x 1) (cut (a.channel % 16) 1 a.mask) in
-     record {
+    record {
       is = bit;
       hit = λ change before after e. bit ∙ ap (λ m. named m a.channel) e ∙ mask-named (hit_by change before after) a.channel;
     }

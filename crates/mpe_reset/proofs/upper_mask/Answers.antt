@@ -1,5 +1,4 @@
 -- `mpe_reset::upper_mask` meets its contract: no member, or the law of the mask of Upper.
-use borrow.Author.Rules.{rules}
 use Rattle.ump.proofs.Auto.{auto}
 use Rattle.mpe_reset.proofs.Masks.{upper_is}
 use Rattle.mpe_reset.proofs.upper_mask.Goals as goal

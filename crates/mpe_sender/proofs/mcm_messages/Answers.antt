@@ -4,7 +4,6 @@ use lib.Dec.{lit≤}
 use native.Mathlib.Omega.{arith}
 use Prim.Native.Nat.{◌≤◌}
 use mathlib.Core.Path.{◌∙◌, ap}
-use borrow.Author.Rules.{rules}
 use Rattle.mpe_layout.specs.Layout.{manager_of}
 use Rattle.ump.specs.declared.controller.Rpn.TheVariants.{Other}
 use Rattle.ump.specs.Outcome.{given}

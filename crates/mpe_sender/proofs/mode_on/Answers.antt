@@ -1,5 +1,4 @@
 -- `mpe_sender::mode_on` meets its contract: by the mode.
-use borrow.Author.Rules.{rules}
 use Rattle.mpe_sender.specs.Writers.{mode_on}
 use Rattle.mpe_sender.proofs.mode_on.Goals as goal
 

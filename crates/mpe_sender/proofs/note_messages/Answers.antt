@@ -1,8 +1,7 @@
 -- `mpe_sender::note_messages` meets its contract: velocity 0 refused, else the four messages.
 use mathlib.Core.Path.{◌∙◌}
-use mathlib.Core.List.{[], ◌∷◌}
+use mathlib.Core.List.{◌∷◌, []}
 use borrow.Author.Tests.{ne_eqb}
-use borrow.Author.Rules.{rules}
 use Rattle.ump.specs.Outcome.{all_of}
 use Rattle.ump.proofs.Auto.{auto}
 use Rattle.mpe_sender.specs.Writers.{note_messages}

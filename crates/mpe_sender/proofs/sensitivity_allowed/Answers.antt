@@ -11,7 +11,7 @@ pub returns-then-sensitivity-gt96 : goal.returns-then-sensitivity-gt96
 unfolding sensitivity_allowed
 returns-then-sensitivity-gt96 c = let s = c.args.sensitivity in
     let e : false ≡ sensitivity_allowed s = rw (lt-ltb 96 s.semitones c.if-sensitivity-gt96.true) in
-     record {
+    record {
       is = e;
       limits = subst (AllowedWithin s) (sym e) (allowed-within s);
     }
@@ -20,7 +20,7 @@ pub returns-then-sensitivity-gt99 : goal.returns-then-sensitivity-gt99
 unfolding sensitivity_allowed
 returns-then-sensitivity-gt99 c = let s = c.args.sensitivity in
     let e : false ≡ sensitivity_allowed s = rw (le-ltb 96 s.semitones c.if-sensitivity-gt96.false, lt-ltb 99 s.cents c.if-sensitivity-gt99.true) in
-     record {
+    record {
       is = e;
       limits = subst (AllowedWithin s) (sym e) (allowed-within s);
     }
@@ -29,7 +29,7 @@ pub returns : goal.returns
 unfolding sensitivity_allowed
 returns c = let s = c.args.sensitivity in
     let e : true ≡ sensitivity_allowed s = rw (le-ltb 96 s.semitones c.if-sensitivity-gt96.false, le-ltb 99 s.cents c.if-sensitivity-gt99.false) in
-     record {
+    record {
       is = e;
       limits = subst (AllowedWithin s) (sym e) (allowed-within s);
     }

@@ -1,9 +1,5 @@
 -- `mpe_zones::apply_at` meets its contract.
-use Prim.Native.Nat.{◌/◌, ◌%◌}
-use mathlib.Core.Path.{ap, ◌∙◌}
-use borrow.Author.Rules.{rules}
-use Rattle.parameter_event.specs.Apply.{applied}
-use Rattle.mpe_zones.specs.Zones.{sensitivity_put, sensitivity_event}
+use Rattle.mpe_zones.specs.Zones.{sensitivity_event}
 use native.Mathlib.Omega.{arith}
 use Rattle.parameter_event.proofs.Steps.{applied-fits}
 use Rattle.mpe_zones.proofs.apply_at.Goals as goal

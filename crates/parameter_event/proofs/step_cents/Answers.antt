@@ -1,5 +1,4 @@
 -- `parameter_event::step_cents` meets its contract.
-use borrow.Author.Rules.{rules}
 use Rattle.ump.proofs.Auto.{auto}
 use Rattle.parameter_event.specs.Apply.{step_cents}
 use Rattle.parameter_event.proofs.step_cents.Goals as goal

@@ -1,5 +1,4 @@
 -- `parameter_event::step_numbered` meets its contract.
-use borrow.Author.Rules.{rules}
 use Rattle.ump.proofs.Auto.{auto}
 use Rattle.parameter_event.specs.Apply.{step_numbered}
 use Rattle.parameter_event.proofs.step_numbered.Goals as goal

@@ -1,7 +1,5 @@
 -- `parameter_event::step_upper` meets its contract.
-use borrow.Author.Rules.{rules}
-use mathlib.Core.Path.{refl, ap}
-use Prim.Native.Nat.{◌+◌, ◌*◌, ◌^◌}
+use mathlib.Core.Path.{refl}
 use native.Mathlib.Omega.{arith}
 use Rattle.parameter_event.proofs.Steps.{saturating-fits}
 use Rattle.parameter_event.proofs.step_upper.Goals as goal

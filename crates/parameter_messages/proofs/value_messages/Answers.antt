@@ -1,8 +1,7 @@
 -- `parameter_messages::value_messages` meets its contract.
-use borrow.Author.Rules.{rules}
 use Rattle.ump.proofs.Auto.{auto}
 use mathlib.Core.Path.{◌∙◌}
-use mathlib.Core.List.{[], ◌∷◌}
+use mathlib.Core.List.{◌∷◌, []}
 use borrow.Author.Tests.{le-ltb}
 use Rattle.ump.specs.Outcome.{all_of, followed_by}
 use Rattle.parameter_messages.specs.Writers.{value_messages}

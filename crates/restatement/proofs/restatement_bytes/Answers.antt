@@ -1,9 +1,8 @@
 -- `restatement::restatement_bytes` meets its contract: refused, too small, or the bytes of all the messages, of which demand 3 holds, with its hypotheses met.
 use mathlib.Core.Path.{◌≡◌, sym, ap, subst, ◌∙◌}
-use Prim.Native.Nat.{ℕ, ◌+◌, ◌/◌, ◌^◌, ◌<◌}
+use Prim.Native.Nat.{ℕ, ◌+◌, ◌/◌}
 use mathlib.Core.List.{◌++◌}
 use lib.ListN.{length, take, drop, replicate}
-use lib.Dec.{lit<}
 use lib.Seq.{sets, length-sets}
 use Rattle.ump.specs.Outcome.{Outcome, given}
 use Rattle.zone_sender.specs.Zone.{filled, written_read}
@@ -15,8 +14,7 @@ use Rattle.settings.proofs.Counts.{message-count, most-messages, byte-count}
 use Rattle.settings.proofs.Demand.{demand-holds}
 use Rattle.settings.proofs.Witnesses.{demand-met}
 use Rattle.restatement.proofs.Sets.{sets-front, take-front}
-use Rattle.restatement.proofs.Reply.{stays, not-counted, same_count, counted, messages-of}
-use borrow.Author.Rules.{rules}
+use Rattle.restatement.proofs.Reply.{same_count, counted, messages-of}
 use native.Mathlib.Omega.{arith}
 use Rattle.restatement.proofs.restatement_bytes.Goals as goal
 
@@ -58,7 +56,7 @@ returns c = let s = c.args.settings in
     let first : take (byte_count s.layout) x ≡ restatement s =
     ap (λ l. take (byte_count s.layout) l) y ∙ take-front o (restatement s) (byte_count s.layout) n q.fits in
     let written : (i : ℕ) → ◌≡◌ {A = Outcome ℕ} (given _) (given i) → take i x ≡ restatement s =
-    λ i g. ap (λ r. take r x) (sym (same_count g) ∙ q.is-needed) ∙ first in  record {
+    λ i g. ap (λ r. take r x) (sym (same_count g) ∙ q.is-needed) ∙ first in record {
       reply = p;
       buffer = e ∙ ap (λ i. filled (given i) (restatement s) o) (sym q.is-needed) ∙ ap (λ r. filled r (restatement s) o) p;
       demand = λ i g. subst (λ l. Demand s l) (sym (written i g)) (demand-holds s t);

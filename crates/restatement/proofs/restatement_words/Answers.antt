@@ -8,7 +8,6 @@ use Rattle.settings.specs.Messages.{messages, message_count}
 use Rattle.settings.proofs.Counts.{message-count, counts-hold}
 use Rattle.restatement.proofs.Sets.{sets-front}
 use Rattle.restatement.proofs.Reply.{stays, counted}
-use borrow.Enum.Refused.{opened}
 use borrow.Author.Rules.{rules}
 use Rattle.restatement.proofs.restatement_words.Goals as goal
 
@@ -16,9 +15,9 @@ pub returns-in_default : goal.returns-in_default
 returns-in_default c = let s = c.args.settings in
     let o = c.args.out.now in
     let p = c.words_reply-reply.ensures.reply in
-     record {
+    record {
       reply = p;
-      buffer = stays c.words_reply-reply.result (messages s) o (opened c.in_default.in_default-own.keys2) ∙ ap (λ r. filled r (messages s) o) p;
+      buffer = stays c.words_reply-reply.result (messages s) o (search rules) ∙ ap (λ r. filled r (messages s) o) p;
       counts = counts-hold;
     }
 
@@ -35,7 +34,7 @@ returns c = let s = c.args.settings in
     let m = message-count s q.is-allowed in
     let h : c.write_messages.new.out ≡ messages s ++ drop (message_count s.layout) o =
     c.write_messages.ensures ∙ sets-front o (messages s) (rw m q.fits) ∙ rw m in
-     record {
+    record {
       reply = p;
       buffer = h ∙ ap (λ i. filled (given i) (messages s) o) (sym q.is-needed) ∙ ap (λ r. filled r (messages s) o) p;
       counts = counts-hold;

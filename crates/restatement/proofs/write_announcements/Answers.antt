@@ -8,7 +8,6 @@ use Rattle.mpe_layout.proofs.Legal.{members-le}
 use Rattle.settings.specs.Messages.{announcement}
 use Rattle.restatement.proofs.Sets.{chain}
 use Rattle.restatement.proofs.Made.{announcement-made}
-use borrow.Author.Rules.{rules}
 use native.Mathlib.Omega.{arith}
 use Rattle.restatement.proofs.write_announcements.Goals as goal
 

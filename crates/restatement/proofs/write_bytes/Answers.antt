@@ -1,8 +1,8 @@
 -- `restatement::write_bytes` meets its contract: after k turns the bytes of the first k messages are written.
-use Prim.Native.Nat.{◌+◌, ◌-◌, ◌≤◌}
+use Prim.Native.Nat.{◌+◌, ◌-◌}
 use mathlib.Core.Path.{◌≡◌, refl, ap, ◌∙◌}
 use lib.ListN.{length, take, get_or, length-append}
-use lib.Seq.{sets, length-sets}
+use lib.Seq.{length-sets}
 use Rattle.settings.specs.Messages.{bytes_of, bytes}
 use Rattle.restatement.proofs.Sets.{chain}
 use Rattle.settings.proofs.Bytes.{bytes-more, bytes-within}

@@ -1,12 +1,9 @@
 -- `restatement::write_bytes` meets its contract: after k turns the bytes of the first k messages are written.
-use Prim.Native.Nat.{◌+◌, ◌-◌, ◌≤◌}
-use mathlib.Core.Path.{◌≡◌, refl, ap, ◌∙◌}
-use lib.ListN.{length, take, get_or, length-append}
-use lib.Seq.{sets, length-sets}
-use Rattle.settings.specs.Messages.{bytes_of, bytes}
-use Rattle.restatement.proofs.Sets.{chain}
-use Rattle.settings.proofs.Bytes.{bytes-more, bytes-within}
-use native.Mathlib.Omega.{arith}
+use Prim.Native.Nat.{◌-◌, ◌≤◌}
+use mathlib.Core.Path.{◌≡◌}
+use lib.ListN.{length, take}
+use lib.Seq.{sets}
+use Rattle.settings.specs.Messages.{bytes}
 use Rattle.restatement.proofs.write_bytes.Given as goal
 
 abbrev pub invariant-loop-k : goal.invariant-loop-k

@@ -1,13 +1,9 @@
 -- `restatement::write_deselections` meets its contract: after k turns the channels below k have their messages.
-use Prim.Native.Nat.{◌+◌, ◌*◌, ◌-◌, ◌≤◌}
-use mathlib.Core.Path.{◌≡◌, refl, ap, ◌∙◌}
+use Prim.Native.Nat.{◌-◌, ◌≤◌}
+use mathlib.Core.Path.{◌≡◌}
 use lib.ListN.{length}
-use lib.Seq.{sets, length-sets}
+use lib.Seq.{sets}
 use Rattle.settings.specs.Messages.{each_channel, deselection_on}
-use Rattle.restatement.proofs.Sets.{turn, ended}
-use Rattle.restatement.proofs.Made.{control-made}
-use borrow.Author.Rules.{rules}
-use native.Mathlib.Omega.{arith}
 use Rattle.restatement.proofs.write_deselections.Given as goal
 
 abbrev pub invariant-loop-k : goal.invariant-loop-k

@@ -6,7 +6,6 @@ use Rattle.settings.specs.Messages.{resets, announcements, sensitivities, modes,
 use Rattle.settings.proofs.Allowed.{allowed-legal}
 use Rattle.restatement.proofs.Sets.{Front, more}
 use Rattle.settings.proofs.Counts.{resets-length, deselections-length, controls-length, parts-count}
-use borrow.Author.Rules.{rules}
 use native.Mathlib.Omega.{arith}
 use Rattle.restatement.proofs.write_messages.Goals as goal
 

@@ -1,6 +1,6 @@
 -- `restatement::write_mode` meets its contract: the mode message that is made for the zone, if any.
 use mathlib.Core.Path.{◌≡◌, ap, ◌∙◌}
-use mathlib.Core.List.{[], ◌∷◌}
+use mathlib.Core.List.{◌∷◌, []}
 use Prim.Native.Nat.{◌+◌}
 use lib.ListN.{length}
 use lib.Seq.{sets}
@@ -8,7 +8,6 @@ use Rattle.ump.specs.Outcome.{all_of}
 use Rattle.ump.specs.Word.{message_made}
 use Rattle.settings.specs.Messages.{modes, words_in}
 use Rattle.restatement.proofs.Made.{mode-made}
-use borrow.Author.Rules.{rules}
 use Rattle.restatement.proofs.write_mode.Goals as goal
 
 pub returns : goal.returns
@@ -16,7 +15,7 @@ returns c = let s = c.args.settings in
     let z = c.args.zone in
     let e : words_in (all_of (message_made c.mode_message.result ∷ [])) ≡ modes s z =
     rw (c.mode_message.ensures, c.shown_mode-mono.ensures) (mode-made s z c.requires.0) in
-     record {
+    record {
       place = c.put_one.ensures.place ∙ ap (λ l. c.args.at + length l) e;
       buffer = c.put_one.ensures.buffer ∙ ap (λ l. sets c.args.out.now c.args.at l) e;
     }

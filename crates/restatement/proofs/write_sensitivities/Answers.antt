@@ -7,7 +7,6 @@ use borrow.Rule.Slice.PartMut.{mid_of, mid_len}
 use Rattle.settings.specs.Messages.{sensitivities}
 use Rattle.restatement.proofs.Sets.{sets-part}
 use Rattle.restatement.proofs.Made.{sensitivities-made}
-use borrow.Author.Rules.{rules}
 use native.Mathlib.Omega.{arith}
 use Rattle.restatement.proofs.write_sensitivities.Goals as goal
 
@@ -29,7 +28,7 @@ returns c = let s = c.args.settings in
     let n : length (mid_of at (length xs - at) xs) ≡ length xs - at = mid_len at (length xs) xs (le_refl (length xs)) in
     let w = sensitivities-made s z (length (mid_of at (length xs - at) xs)) c.requires.0 (omega (arith, c.requires.1)) in
     let m = c.zone_sensitivity_messages-written in
-     record {
+    record {
       place = c.place_after.ensures ∙ rw (m.ensures.reply, c.shown_sensitivity-manager.ensures, c.shown_sensitivity-member.ensures, w.count);
       buffer = sets-part xs m.new.out (sensitivities s z) at c.requires.1
           (rw (m.ensures.buffer, c.shown_sensitivity-manager.ensures, c.shown_sensitivity-member.ensures) (w.buffer (mid_of at (length xs - at) xs)));

@@ -1,7 +1,6 @@
 -- `restatement_reply::byte_count` meets its contract.
 use Rattle.settings.specs.Messages.{message_count, byte_count}
 use Rattle.settings.proofs.Counts.{one-le}
-use borrow.Author.Rules.{rules}
 use Rattle.ump.proofs.Auto.{auto}
 use native.Mathlib.Omega.{arith}
 use Rattle.restatement_reply.proofs.byte_count.Goals as goal

@@ -1,10 +1,7 @@
 -- `restatement_reply::channels_allowed` meets its contract: after k turns the channels below k are tested.
 use Prim.Native.Nat.{◌-◌, ◌≤◌}
-use mathlib.Core.Path.{◌≡◌, refl, ap, ◌∙◌}
-use native.Mathlib.Numerals.{add-one}
+use mathlib.Core.Path.{◌≡◌}
 use Rattle.settings.specs.Settings.{channels_allowed}
-use borrow.Author.Rules.{rules}
-use native.Mathlib.Omega.{arith}
 use Rattle.restatement_reply.proofs.channels_allowed.Given as goal
 
 abbrev pub invariant-loop-k : goal.invariant-loop-k

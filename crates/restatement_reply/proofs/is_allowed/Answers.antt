@@ -1,11 +1,9 @@
 -- `restatement_reply::is_allowed` meets its contract: each test in its turn.
 use mathlib.Core.Path.{◌≡◌, sym, ap, ◌∙◌}
 use mathlib.Core.Bool.{true, false}
-use borrow.Author.Tests.{not-true, not-false}
 use Rattle.mpe_layout.specs.Layout.{layout_made}
 use Rattle.settings.specs.Settings.{zone_allowed, allowed}
 use Rattle.settings.proofs.Allowed.{made-legal, made_none}
-use borrow.Author.Rules.{rules}
 use Rattle.restatement_reply.proofs.is_allowed.Goals as goal
 
 pub returns-in_default : goal.returns-in_default

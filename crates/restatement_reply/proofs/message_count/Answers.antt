@@ -1,9 +1,6 @@
 -- `restatement_reply::message_count` meets its contract: the sums as they are.
 use Rattle.settings.specs.Messages.{message_count}
-use Rattle.settings.proofs.Counts.{one-le}
-use borrow.Author.Rules.{rules}
 use Rattle.ump.proofs.Auto.{auto}
-use native.Mathlib.Omega.{arith}
 use Rattle.restatement_reply.proofs.message_count.Goals as goal
 
 pub returns : goal.returns

@@ -1,6 +1,5 @@
 -- `restatement_reply::words_reply` meets its contract: the reply for this count, and what it says of the settings and of the buffer.
 use mathlib.Core.Path.{ap, ◌∙◌}
-use borrow.Author.Rules.{rules}
 use Rattle.settings.specs.Messages.{message_count, restated_reply}
 use Rattle.settings.proofs.Limits.{answered-within}
 use Rattle.restatement_reply.proofs.words_reply.Goals as goal
@@ -8,7 +7,7 @@ use Rattle.restatement_reply.proofs.words_reply.Goals as goal
 pub returns : goal.returns
 returns c = let a = c.args in
     let r = c.restated_reply.ensures ∙ ap (λ n. restated_reply a.settings n a.got) c.message_count.ensures in
-     record {
+    record {
       reply = r;
       limits = answered-within a.settings (message_count a.settings.layout) a.got _ r;
     }

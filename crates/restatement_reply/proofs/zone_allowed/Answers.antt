@@ -1,8 +1,7 @@
 -- `restatement_reply::zone_allowed` meets its contract: each test in its turn.
 use mathlib.Core.Path.{◌≡◌, sym, ◌∙◌}
 use mathlib.Core.Bool.{true, false}
-use borrow.Author.Tests.{eq-eqb, ne_eqb, not-true, not-false}
-use borrow.Author.Rules.{rules}
+use borrow.Author.Tests.{eq-eqb, ne_eqb}
 use Rattle.mpe_sender.specs.Writers.{sensitivity_allowed}
 use Rattle.settings.specs.Settings.{zone_allowed}
 use Rattle.ump.proofs.Auto.{auto}

@@ -4,12 +4,9 @@ use mathlib.Core.Path.{◌∙◌, ap}
 use Prim.Native.Nat.{ℕ, ◌+◌, ◌-◌, ◌*◌, ◌/◌, ◌^◌, ◌≤◌}
 use native.Mathlib.Nat.{lt_of_le_of_lt, lt_of_lt_of_le}
 use native.Mathlib.Omega.{arith}
-use lib.Pow.{pow_pos, pow_mono}
-use native.Mathlib.Nat.{mod-lt}
-use borrow.Author.Rules.{rules}
-use Rattle.scale.specs.Scale.{repeated}
+use lib.Pow.{pow_mono}
 use Rattle.scale.proofs.Range.{shifted}
-use Rattle.scale.proofs.Repeat.{Left, starts, turn, within, falls, ended, repeated_lt}
+use Rattle.scale.proofs.Repeat.{starts, turn, within, falls, ended, repeated_lt}
 use Rattle.scale.proofs.bit_repeated.Goals as goal
 
 pub loop-repeat-init : goal.loop-repeat-init

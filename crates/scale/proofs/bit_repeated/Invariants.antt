@@ -1,15 +1,8 @@
 -- `scale::bit_repeated` meets its contract. The loop's invariant: what is left to add is the next repeat, and n bits lower the others.
 -- The measure is the next repeat.
-use mathlib.Core.Path.{◌∙◌, ap}
-use Prim.Native.Nat.{ℕ, ◌+◌, ◌-◌, ◌*◌, ◌/◌, ◌^◌, ◌≤◌}
-use native.Mathlib.Nat.{lt_of_le_of_lt, lt_of_lt_of_le}
-use native.Mathlib.Omega.{arith}
-use lib.Pow.{pow_pos, pow_mono}
-use native.Mathlib.Nat.{mod-lt}
-use borrow.Author.Rules.{rules}
+use Prim.Native.Nat.{◌-◌}
 use Rattle.scale.specs.Scale.{repeated}
-use Rattle.scale.proofs.Range.{shifted}
-use Rattle.scale.proofs.Repeat.{Left, starts, turn, within, falls, ended, repeated_lt}
+use Rattle.scale.proofs.Repeat.{Left}
 use Rattle.scale.proofs.bit_repeated.Given as goal
 
 abbrev pub invariant-loop-repeat : goal.invariant-loop-repeat

@@ -1,5 +1,4 @@
 -- `scale::can_upscale` meets its contract.
-use borrow.Author.Rules.{rules}
 use native.Mathlib.Omega.{arith}
 use borrow.Author.Tests.{le-leb, lt-leb, lt-ltb, le-ltb}
 use Rattle.scale.specs.Scale.{widens}

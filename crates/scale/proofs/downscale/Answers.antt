@@ -1,5 +1,4 @@
 -- `scale::downscale` meets its contract: what it answers, and the claims that follow from that.
-use borrow.Author.Rules.{rules}
 use native.Mathlib.Omega.{arith}
 use Prim.Native.Nat.{◌-◌, ◌/◌, ◌^◌}
 use mathlib.Core.Path.{sym, ◌∙◌}

@@ -1,13 +1,10 @@
 -- `scale::fits` meets its contract.
-use borrow.Author.Rules.{rules}
 use native.Mathlib.Omega.{arith}
-use mathlib.Core.Path.{sym, ap}
-use Prim.Native.Nat.{ℕ, ◌<◌, ◌^◌}
+use mathlib.Core.Path.{sym}
+use Prim.Native.Nat.{◌<◌, ◌^◌}
 use native.Mathlib.Nat.{lt_of_lt_of_le}
-use lib.Dec.{ltb}
 use lib.Pow.{pow_mono}
 use borrow.Author.Tests.{lt-ltb}
-use Rattle.scale.proofs.Range.{one_shifted}
 use Rattle.scale.proofs.fits.Goals as goal
 
 pub returns-then-bits-ge32 : goal.returns-then-bits-ge32

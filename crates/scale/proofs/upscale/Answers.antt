@@ -18,7 +18,7 @@ unfolding upscaled
 returns-then-can_upscale c =
     let a = c.args in
     let p = let t = sym c.can_upscale.ensures ∙ c.if-can_upscale.true in
-          upscale-claims (Value c.min_center_max.result) a.value a.src_bits a.dst_bits (rw t (ap given c.min_center_max.ensures)) in
+    upscale-claims (Value c.min_center_max.result) a.value a.src_bits a.dst_bits (rw t (ap given c.min_center_max.ensures)) in
     record { is = p.0; bits = p.1.0; one = p.1.1.0; kept = p.1.1.1.0; rises = p.1.1.1.1.0; examples = p.1.1.1.1.1 }
 
 pub returns : goal.returns

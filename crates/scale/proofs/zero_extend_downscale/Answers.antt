@@ -1,11 +1,9 @@
 -- `scale::zero_extend_downscale` meets its contract: what it answers, and the claims that follow from that.
-use borrow.Author.Rules.{rules}
 use native.Mathlib.Omega.{arith}
 use Prim.Native.Nat.{ℕ, ◌<◌, ◌≤◌, ◌+◌, ◌-◌, ◌*◌, ◌/◌, ◌%◌, ◌^◌}
 use mathlib.Core.Path.{subst, sym, ap, ◌∙◌}
 use native.Mathlib.Nat.{le_of_lt, min-eq_left, min-eq_right}
 use lib.Pow.{pow_mono}
-use borrow.Author.Tests.{not-true, not-false}
 use Rattle.ump.specs.Outcome.{given}
 use Rattle.scale.specs.Scale.{zero_downscaled, rounded}
 use Rattle.scale.specs.declared.Scaled.TheVariants.{Value, OutOfRange}

@@ -1,5 +1,4 @@
 -- `scale::zero_extend_upscale` meets its contract: what it answers, and the claims that follow from that.
-use borrow.Author.Rules.{rules}
 use native.Mathlib.Omega.{arith}
 use Prim.Native.Nat.{◌-◌, ◌*◌, ◌%◌, ◌^◌}
 use mathlib.Core.Path.{sym, ap, ◌∙◌}
@@ -35,8 +34,8 @@ returns-then-can_upscale c =
     let h = sym c.can_upscale.ensures ∙ c.if-can_upscale.true in
     let r = widening _ _ _ h in
     let p = zero-extend-upscale-claims
-          (Value (a.value * 2 ^ (a.dst_bits - a.src_bits) % 2 ^ 32)) a.value a.src_bits a.dst_bits
-          (rw (le-leb 2 a.src_bits (omega arith), h) (ap given (shifted a.src_bits a.dst_bits a.value (omega arith) (omega arith) (omega arith)))) in
+    (Value (a.value * 2 ^ (a.dst_bits - a.src_bits) % 2 ^ 32)) a.value a.src_bits a.dst_bits
+    (rw (le-leb 2 a.src_bits (omega arith), h) (ap given (shifted a.src_bits a.dst_bits a.value (omega arith) (omega arith) (omega arith)))) in
     record { is = p.0; bits = p.1 }
 
 pub returns : goal.returns

@@ -5,14 +5,13 @@ use mathlib.Core.Bool.{true, false}
 use mathlib.Core.List.{List}
 use native.Mathlib.Omega.{arith}
 use lib.ListN.{length}
-use borrow.Author.Tests.{not-true, not-false, lt-ltb, le-ltb}
+use borrow.Author.Tests.{lt-ltb, le-ltb}
 use Rattle.ump.specs.Outcome.{out_of_range}
 use Rattle.setup_file.specs.declared.Section.{Section}
 use Rattle.setup_file.specs.declared.Section.TheVariants.{Zones, Channels}
 use Rattle.setup_file.specs.Format.{entry_size, number_in, entry_within, unlisted}
 use Rattle.setup_file.specs.Read.{wrong_length, out_of_order, entry_read}
 use Rattle.setup_file.proofs.Taken.{taken-read}
-use borrow.Author.Rules.{rules}
 use Rattle.setup_entry.proofs.entry_reply.Goals as goal
 
 -- a whole entry has a first byte

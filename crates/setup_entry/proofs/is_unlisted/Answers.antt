@@ -1,13 +1,12 @@
 -- `setup_entry::is_unlisted` meets its contract: by the section.
 use Prim.Native.Nat.{ℕ, ◌+◌, ◌*◌, ◌/◌, ◌%◌, ◌^◌, ◌≤◌}
 use mathlib.Core.Bool.{true}
-use mathlib.Core.Path.{◌≡◌, refl}
+use mathlib.Core.Path.{◌≡◌}
 use native.Mathlib.Omega.{arith}
 use lib.ListN.{get_or}
 use Rattle.setup_file.specs.Format.{entry_within, at_rest}
 use Rattle.setup_file.proofs.Entries.{channel-within}
-use Rattle.setup_file.specs.declared.Section.TheVariants.{Zones, Channels}
-use borrow.Author.Rules.{rules}
+use Rattle.setup_file.specs.declared.Section.TheVariants.{Channels}
 use Rattle.setup_entry.proofs.is_unlisted.Goals as goal
 
 -- the halves of a bend are those that it was made of

@@ -1,7 +1,5 @@
 -- `setup_entry::take_entry` meets its contract: the reply, and the settings by it.
-use mathlib.Core.Path.{◌∙◌}
-use Rattle.setup_entry.proofs.Onward.{entry-taken, settings-with, settings-left}
-use borrow.Author.Rules.{rules}
+use Rattle.setup_entry.proofs.Onward.{entry-taken}
 use Rattle.setup_entry.proofs.take_entry.Goals as goal
 
 pub with_entry-with-requires : goal.with_entry-with-requires

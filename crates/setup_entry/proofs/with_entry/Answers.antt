@@ -2,9 +2,8 @@
 use mathlib.Core.Bool.{true}
 use Rattle.setup_file.specs.Format.{entry_within}
 use Rattle.setup_file.proofs.Entries.{within-number}
-use mathlib.Core.Path.{◌≡◌, refl}
-use Rattle.setup_file.specs.declared.Section.TheVariants.{Zones, Channels}
-use borrow.Author.Rules.{rules}
+use mathlib.Core.Path.{◌≡◌}
+use Rattle.setup_file.specs.declared.Section.TheVariants.{Channels}
 use Rattle.setup_entry.proofs.with_entry.Goals as goal
 
 pub with_channel-requires : goal.with_channel-requires

@@ -1,10 +1,7 @@
 -- `setup_file::is_printable` meets its contract: what is left of the text decides.
-use Prim.Native.Nat.{◌-◌, ◌≤◌}
-use mathlib.Core.Path.{◌≡◌, refl, sym, ◌∙◌}
+use Prim.Native.Nat.{◌-◌}
+use mathlib.Core.Path.{sym, ◌∙◌}
 use native.Mathlib.Omega.{arith}
-use lib.ListN.{length, drop}
-use borrow.Author.Rules.{rules}
-use Rattle.setup_file.specs.Format.{printable}
 use Rattle.setup_file.proofs.Printable.{printable-end, printable-low, printable-high, printable-next}
 use Rattle.setup_file.proofs.is_printable.Goals as goal
 

@@ -1,11 +1,8 @@
 -- `setup_file::is_printable` meets its contract: what is left of the text decides.
 use Prim.Native.Nat.{◌-◌, ◌≤◌}
-use mathlib.Core.Path.{◌≡◌, refl, sym, ◌∙◌}
-use native.Mathlib.Omega.{arith}
+use mathlib.Core.Path.{◌≡◌}
 use lib.ListN.{length, drop}
-use borrow.Author.Rules.{rules}
 use Rattle.setup_file.specs.Format.{printable}
-use Rattle.setup_file.proofs.Printable.{printable-end, printable-low, printable-high, printable-next}
 use Rattle.setup_file.proofs.is_printable.Given as goal
 
 abbrev pub invariant-loop-k : goal.invariant-loop-k

@@ -5,12 +5,10 @@ use mathlib.Core.List.{List}
 use Prim.Native.Nat.{ℕ, ◌-◌, ◌≤◌, ◌<◌}
 use native.Mathlib.Omega.{arith}
 use lib.ListN.{length, drop}
-use borrow.Author.Tests.{not-true, not-false}
 use Rattle.setup_file.specs.declared.Section.{Section}
 use Rattle.setup_file.specs.declared.Section.TheVariants.{Zones, Channels}
 use Rattle.setup_file.specs.Format.{entry_size, entry_within, unlisted}
 use Rattle.setup_reader.proofs.Refusals.{entry-cut, entry-outside, entry-low, entry-unlisted, entry-number}
-use borrow.Author.Rules.{rules}
 use Rattle.setup_reader.proofs.entry_read.Goals as goal
 
 -- a whole entry has its first byte inside the file

@@ -1,5 +1,4 @@
 -- `setup_reader::read_entries` meets its contract: what is left to read gives the answer of the whole.
-use borrow.Enum.Refused.{opened}
 use Prim.Native.Nat.{ℕ, ◌+◌}
 use mathlib.Core.List.{List}
 use Rattle.settings.specs.declared.Settings.{Settings}
@@ -12,10 +11,9 @@ use Rattle.setup_file.specs.Format.{number_in}
 use Rattle.setup_file.specs.Read.{entry_read}
 use Rattle.setup_reader.specs.Progress.{setup_read}
 use Rattle.setup_reader.proofs.Onward.{here, entries-on, one_left, entries-refused}
-use Prim.Native.Nat.{◌-◌, ◌<◌, ◌≤◌}
+use Prim.Native.Nat.{◌-◌, ◌<◌}
 use mathlib.Core.Path.{◌≡◌}
-use lib.ListN.{length, drop}
-use native.Mathlib.Nat.{sub-zero}
+use lib.ListN.{drop}
 use native.Mathlib.Omega.{arith}
 use borrow.Author.Rules.{rules}
 use Rattle.setup_file.specs.Read.{entries_read}
@@ -35,8 +33,8 @@ pub returns-in_default : goal.returns-in_default
 returns-in_default c = let i = c.loop-k in
     let a = c.args in
     let b = drop i.at a.file.now in
-    let k : i.k < a.count = omega arith in  record {
-      reading = entries-refused a.section (a.count - (i.k + 1)) i.least i.settings b c.entry_read-reply.result (opened c.in_default.in_default-own.keys2) c.entry_read-reply.ensures (i.settings, b)
+    let k : i.k < a.count = omega arith in record {
+      reading = entries-refused a.section (a.count - (i.k + 1)) i.least i.settings b c.entry_read-reply.result (search rules) c.entry_read-reply.ensures (i.settings, b)
           ∙ one_left a.section a.count i.k i.least i.settings b k
           ∙ i.invariant.2;
       inside = i.invariant.0;
@@ -80,7 +78,7 @@ pub returns : goal.returns
 returns c = let i = c.loop-k in
     let a = c.args in
     let k : a.count - i.k ≡ 0 = omega arith in
-     record {
+    record {
       reading = sym (ended a.section i.least i.settings (drop i.at a.file.now) _ k) ∙ i.invariant.2;
       inside = i.invariant.0;
     }

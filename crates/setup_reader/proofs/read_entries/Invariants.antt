@@ -1,22 +1,7 @@
 -- `setup_reader::read_entries` meets its contract: what is left to read gives the answer of the whole.
-use Prim.Native.Nat.{ℕ, ◌+◌}
-use mathlib.Core.List.{List}
-use Rattle.settings.specs.declared.Settings.{Settings}
-use Rattle.setup_file.specs.declared.Section.{Section}
-use Rattle.setup_reader.specs.declared.SetupReply.{SetupReply}
-use mathlib.Core.Path.{sym, ap, ◌∙◌}
-use Rattle.ump.specs.Outcome.{given}
-use Rattle.setup_reader.specs.declared.SetupReply.TheVariants as setup_reply
-use Rattle.setup_file.specs.Format.{number_in}
-use Rattle.setup_file.specs.Read.{entry_read}
-use Rattle.setup_reader.specs.Progress.{setup_read}
-use Rattle.setup_reader.proofs.Onward.{here, entries-on, one_left, entries-refused}
-use Prim.Native.Nat.{◌-◌, ◌<◌, ◌≤◌}
+use Prim.Native.Nat.{◌-◌, ◌≤◌}
 use mathlib.Core.Path.{◌≡◌}
 use lib.ListN.{length, drop}
-use native.Mathlib.Nat.{sub-zero}
-use native.Mathlib.Omega.{arith}
-use borrow.Author.Rules.{rules}
 use Rattle.setup_file.specs.Read.{entries_read}
 use Rattle.setup_reader.proofs.read_entries.Given as goal
 

@@ -1,5 +1,4 @@
 -- `setup_reader::setup_settings` meets its contract: what was read of the whole file.
-use borrow.Enum.Refused.{opened}
 use Prim.Native.Nat.{ℕ}
 use mathlib.Core.List.{List}
 use Rattle.setup_file.specs.Claims.{OnlyForm, SeenIsShown, Leftmost, CourseShown}
@@ -21,16 +20,15 @@ claimed file a b = (a, (b, (only-form, (seen-is-shown, (leftmost, (course-shown 
 pub returns-in_default : goal.returns-in_default
 returns-in_default c = let d = c.read_file-read in
     let l = c.args.file.now in
-    let k = (opened c.in_default.in_default-own.keys2) in
     let p = claimed l
-          (reply-handed d.result l d.ensures.reading c.new.result (λ r. absurd (not-read d.result.reply k r)))
-          (c.new.ensures.value ∙ (refused-handed d.result l d.ensures.reading k).0) in
+    (reply-handed d.result l d.ensures.reading c.new.result (λ r. absurd (not-read d.result.reply (search rules) r)))
+    (c.new.ensures.value ∙ (refused-handed d.result l d.ensures.reading (search rules)).0) in
     record { reply = p.0; settings = p.1.0; form = p.1.1.0; seen = p.1.1.1.0; leftmost = p.1.1.1.1.0; course = p.1.1.1.1.1.0; examples = p.1.1.1.1.1.1 }
 
 pub returns : goal.returns
 returns c = let d = c.read_file-read in
     let p = let l = c.args.file.now in
-          claimed l
-          (reply-handed d.result l d.ensures.reading d.result.settings (λ r. refl))
-          (read-handed d.result l d.ensures.reading c.in-Read.is).0 in
+    claimed l
+    (reply-handed d.result l d.ensures.reading d.result.settings (λ r. refl))
+    (read-handed d.result l d.ensures.reading c.in-Read.is).0 in
     record { reply = p.0; settings = p.1.0; form = p.1.1.0; seen = p.1.1.1.0; leftmost = p.1.1.1.1.0; course = p.1.1.1.1.1.0; examples = p.1.1.1.1.1.1 }

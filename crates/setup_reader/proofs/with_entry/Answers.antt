@@ -5,9 +5,8 @@ use native.Mathlib.Omega.{arith}
 use lib.ListN.{drop}
 use Rattle.setup_file.specs.Format.{entry_within}
 use Rattle.setup_file.proofs.Entries.{within-number, channel-within}
-use mathlib.Core.Path.{◌≡◌, refl}
-use Rattle.setup_file.specs.declared.Section.TheVariants.{Zones, Channels}
-use borrow.Author.Rules.{rules}
+use mathlib.Core.Path.{◌≡◌}
+use Rattle.setup_file.specs.declared.Section.TheVariants.{Channels}
 use Rattle.setup_reader.proofs.with_entry.Goals as goal
 
 pub with_channel-requires : goal.with_channel-requires

@@ -1,7 +1,6 @@
 -- `setup_reader::zone_entry_within` meets its contract: each test in its turn.
 use Rattle.ump.proofs.Auto.{auto}
 use Rattle.setup_file.specs.Format.{zone_entry_within}
-use borrow.Author.Rules.{rules}
 use Rattle.setup_reader.proofs.zone_entry_within.Goals as goal
 
 pub returns-then-entry-gt1 : goal.returns-then-entry-gt1

@@ -1,9 +1,8 @@
 -- `setup_writer::entry_count` meets its contract: after k turns the entries of the numbers below k are counted.
-use Prim.Native.Nat.{◌-◌, ◌<◌, ◌≤◌}
-use mathlib.Core.Path.{◌≡◌, refl, sym, ap, ◌∙◌}
+use Prim.Native.Nat.{◌-◌, ◌≤◌}
+use mathlib.Core.Path.{refl, sym, ap, ◌∙◌}
 use native.Mathlib.Omega.{arith}
 use lib.ListN.{length, length-append}
-use borrow.Author.Rules.{rules}
 use Rattle.setup_file.specs.Format.{entries_from}
 use Rattle.setup_writer.proofs.Entries.{most-small, next-number, count-at-most}
 use Rattle.setup_writer.proofs.entry_count.Goals as goal

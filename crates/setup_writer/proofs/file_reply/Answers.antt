@@ -1,11 +1,8 @@
 -- `setup_writer::file_reply` meets its contract: the settings, the label, and then the room.
 use mathlib.Core.Path.{sym, ◌∙◌}
 use mathlib.Core.Bool.{true, false}
-use borrow.Author.Tests.{not-true, not-false}
-use Rattle.settings.specs.Settings.{allowed}
 use Rattle.setup_writer.proofs.Sizes.{label-at-most, file-size}
 use Rattle.setup_writer.proofs.Replies.{settings-refused, label-refused, too_small_lem, fitting}
-use borrow.Author.Rules.{rules}
 use Rattle.setup_writer.proofs.file_reply.Goals as goal
 
 pub returns-then-not-is_allowed : goal.returns-then-not-is_allowed

@@ -2,7 +2,6 @@
 use mathlib.Core.Path.{sym, ap, ◌∙◌}
 use lib.ListN.{length}
 use Rattle.setup_writer.proofs.Entries.{one-unlisted, one-listed}
-use borrow.Author.Rules.{rules}
 use Rattle.setup_writer.proofs.one_if_listed.Goals as goal
 
 pub returns-then-is_unlisted : goal.returns-then-is_unlisted

@@ -1,10 +1,9 @@
 -- `setup_writer::put_entry` meets its contract: by the section.
 use Prim.Native.Nat.{◌<◌}
-use mathlib.Core.Path.{◌≡◌, refl, ◌∙◌}
+use mathlib.Core.Path.{◌≡◌}
 use native.Mathlib.Omega.{arith}
-use Rattle.setup_file.specs.declared.Section.TheVariants.{Zones, Channels}
+use Rattle.setup_file.specs.declared.Section.TheVariants.{Channels}
 use Rattle.settings.proofs.Allowed.{allowed-channel}
-use borrow.Author.Rules.{rules}
 use Rattle.setup_writer.proofs.put_entry.Goals as goal
 
 pub put_channel-requires : goal.put_channel-requires

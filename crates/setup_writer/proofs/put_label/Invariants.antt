@@ -1,13 +1,8 @@
 -- `setup_writer::put_label` meets its contract: after k turns k bytes of the label stand behind its length.
-use Prim.Native.Nat.{ℕ, suc, ◌+◌, ◌-◌, ◌<◌, ◌≤◌}
-use mathlib.Core.Path.{◌≡◌, refl, sym, ap, ◌∙◌}
-use mathlib.Core.List.{List, [], ◌∷◌}
-use native.Mathlib.Omega.{arith}
-use native.Mathlib.Numerals.{add-one}
-use lib.ListN.{length, get_or, set, take, length-set}
-use lib.Seq.{sets, take-suc, take_all, length-take-le}
-use borrow.Author.Rules.{rules}
-use Rattle.restatement.proofs.Sets.{sets-append}
+use Prim.Native.Nat.{◌+◌, ◌-◌, ◌≤◌}
+use mathlib.Core.Path.{◌≡◌}
+use lib.ListN.{length, take}
+use lib.Seq.{sets}
 use Rattle.setup_writer.proofs.put_label.Given as goal
 
 abbrev pub invariant-loop-k : goal.invariant-loop-k

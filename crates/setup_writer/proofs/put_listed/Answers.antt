@@ -3,15 +3,13 @@ use Prim.Native.Nat.{◌+◌}
 use mathlib.Core.Path.{refl, sym, ap, ◌∙◌}
 use native.Mathlib.Nat.{add-zero}
 use lib.ListN.{length}
-use Rattle.setup_file.specs.Format.{unlisted}
 use Rattle.setup_writer.proofs.Entries.{unlisted-bytes, listed-bytes, entry-long}
-use borrow.Author.Rules.{rules}
 use Rattle.setup_writer.proofs.put_listed.Goals as goal
 
 pub returns-then-is_unlisted : goal.returns-then-is_unlisted
 returns-then-is_unlisted c = let a = c.args in
     let e = unlisted-bytes a.section a.settings a.number (sym c.is_unlisted.ensures ∙ c.if-is_unlisted.true) in
-     record {
+    record {
       place = rw e (sym (add-zero a.at));
       buffer = rw e refl;
     }
@@ -25,7 +23,7 @@ put_entry-requires c = let a = c.args in
 pub returns : goal.returns
 returns c = let a = c.args in
     let e = listed-bytes a.section a.settings a.number (sym c.is_unlisted.ensures ∙ c.if-is_unlisted.false) in
-     record {
+    record {
       place = rw e (c.put_entry.ensures.place ∙ ap (λ n. a.at + n) (sym (entry-long a.section a.settings a.number)));
       buffer = rw e c.put_entry.ensures.buffer;
     }

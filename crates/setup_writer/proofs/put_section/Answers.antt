@@ -1,14 +1,12 @@
 -- `setup_writer::put_section` meets its contract: after k turns the entries of the numbers below k stand behind the count.
-use Prim.Native.Nat.{◌+◌, ◌-◌, ◌<◌, ◌≤◌}
+use Prim.Native.Nat.{◌+◌, ◌-◌, ◌<◌}
 use mathlib.Core.Path.{◌≡◌, refl, sym, ap, ◌∙◌}
 use mathlib.Core.List.{flatten}
 use native.Mathlib.Omega.{arith}
-use native.Mathlib.Numerals.{add-one}
 use lib.ListN.{length, set, length-set, length-append}
 use lib.Seq.{sets, length-sets}
-use borrow.Author.Rules.{rules}
 use Rattle.restatement.proofs.Sets.{sets-append}
-use Rattle.setup_file.specs.Format.{most, entries_from, entries_of}
+use Rattle.setup_file.specs.Format.{most, entries_from}
 use Rattle.setup_writer.proofs.Entries.{next-bytes, next_fits}
 use Rattle.setup_writer.proofs.put_section.Goals as goal
 
@@ -41,8 +39,7 @@ loop-k-preserved c = let i = c.loop-k in
     let w : length (flatten (entries_from s t 0 (i.k + 1))) ≡ length (flatten (entries_from s t 0 i.k)) + length (flatten (entries_from s t i.k 1)) =
     ap length e ∙ length-append (flatten (entries_from s t 0 i.k)) (flatten (entries_from s t i.k 1)) in
     let p = i.invariant.2 in
-    let q = c.put_listed-place.ensures.place in
-    (
+    let q = c.put_listed-place.ensures.place in (
       omega arith,
       ap length b ∙ length-sets o (a.at + 1) (flatten (entries_from s t 0 (i.k + 1))),
       omega arith,

@@ -1,15 +1,10 @@
 -- `setup_writer::put_section` meets its contract: after k turns the entries of the numbers below k stand behind the count.
-use Prim.Native.Nat.{◌+◌, ◌-◌, ◌<◌, ◌≤◌}
-use mathlib.Core.Path.{◌≡◌, refl, sym, ap, ◌∙◌}
+use Prim.Native.Nat.{◌+◌, ◌-◌, ◌≤◌}
+use mathlib.Core.Path.{◌≡◌}
 use mathlib.Core.List.{flatten}
-use native.Mathlib.Omega.{arith}
-use native.Mathlib.Numerals.{add-one}
-use lib.ListN.{length, set, length-set, length-append}
-use lib.Seq.{sets, length-sets}
-use borrow.Author.Rules.{rules}
-use Rattle.restatement.proofs.Sets.{sets-append}
-use Rattle.setup_file.specs.Format.{most, entries_from, entries_of}
-use Rattle.setup_writer.proofs.Entries.{next-bytes, next_fits}
+use lib.ListN.{length}
+use lib.Seq.{sets}
+use Rattle.setup_file.specs.Format.{most, entries_from}
 use Rattle.setup_writer.proofs.put_section.Given as goal
 
 abbrev pub invariant-loop-k : goal.invariant-loop-k

@@ -1,5 +1,4 @@
 -- `setup_writer::setup_bytes` meets its contract: refused, too small, or the file; and the reader takes the bytes that were written.
-use borrow.Enum.Refused.{opened}
 use Prim.Native.Nat.{ℕ, ◌+◌}
 use mathlib.Core.Path.{◌≡◌, refl, sym, ap, ◌∙◌}
 use mathlib.Core.List.{◌∷◌, ◌++◌}
@@ -24,12 +23,11 @@ returns-in_default c = let a = c.args in
     let o = a.out.now in
     let x = setup_file a.settings a.label.now in
     let r = c.file_reply-reply.result in
-    let t = (opened c.in_default.in_default-own.keys2) in
     let p = c.file_reply-reply.ensures in
-     record {
+    record {
       reply = p;
-      buffer = stays r x o t ∙ ap (λ q. filled q x o) p;
-      read_back = λ n e. absurd (not-counted r t n e);
+      buffer = stays r x o (search rules) ∙ ap (λ q. filled q x o) p;
+      read_back = λ n e. absurd (not-counted r (search rules) n e);
       sizes = file-sizes;
     }
 
@@ -92,7 +90,7 @@ returns c = let a = c.args in
     let e : c.put_label.new.out ≡ x ++ drop (length x) o = all ∙ sets-front o x q.fits in
     let first : take (length x) c.put_label.new.out ≡ x = ap (take (length x)) all ∙ take-front o x (length x) refl q.fits in
     let written : (i : ℕ) → ◌≡◌ {A = Outcome ℕ} (given _) (given i) → take i c.put_label.new.out ≡ x =
-    λ i g. ap (λ r. take r c.put_label.new.out) (sym (same_count g) ∙ sym q.is-needed) ∙ first in  record {
+    λ i g. ap (λ r. take r c.put_label.new.out) (sym (same_count g) ∙ sym q.is-needed) ∙ first in record {
       reply = p;
       buffer = e ∙ ap (λ i. filled (given i) x o) q.is-needed ∙ ap (λ r. filled r x o) p;
       read_back = λ i g. ap file_read (written i g) ∙ read_back s l q.writable;

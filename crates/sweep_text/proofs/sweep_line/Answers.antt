@@ -2,7 +2,6 @@
 use mathlib.Core.Path.{◌∙◌, ap, sym, subst}
 use mathlib.Core.List.{List, ◌∷◌, ◌++◌}
 use Prim.Native.Nat.{ℕ}
-use native.Mathlib.Omega.{arith}
 use Rattle.mpe_pitch.specs.declared.OffsetWithRemainder.{OffsetWithRemainder}
 use Rattle.mpe_pitch.proofs.Offset.{offset-back}
 use Rattle.mpe_pitch.proofs.Remainder.{remainder-back}
@@ -11,7 +10,6 @@ use Rattle.sweep_text.specs.Claims.{ColumnsRead}
 use Rattle.sweep_text.specs.Line.{fifth}
 use Rattle.sweep_text.proofs.Columns.{columns-read}
 use Rattle.sweep_text.proofs.Lines.{lines-as-tabled}
-use borrow.Author.Rules.{rules}
 use Rattle.sweep_text.proofs.sweep_line.Goals as goal
 
 pub returns : goal.returns
@@ -25,7 +23,7 @@ returns c =
     let third = c.after_number.ensures.0 ∙ ap (λ (x : List ℕ). decimal a.value ++ x) (c.after.ensures.0 ∙ ap (λ (x : List ℕ). 0x20 ∷ x) fourth) in
     let second = c.after_number-2.ensures.0 ∙ ap (λ (x : List ℕ). decimal a.sensitivity.cents ++ x) (c.after-2.ensures.0 ∙ ap (λ (x : List ℕ). 0x20 ∷ x) third) in
     let first = c.after_number-3.ensures.0 ∙ ap (λ (x : List ℕ). decimal a.sensitivity.semitones ++ x) (c.after-3.ensures.0 ∙ ap (λ (x : List ℕ). 0x20 ∷ x) second) in
-     record {
+    record {
       is = first;
       filled = c.after_number-3.ensures.2;
       read = subst (λ (x : List ℕ). ColumnsRead a.sensitivity a.value a.remainder x) (sym first) (columns-read a.sensitivity a.value a.remainder);

@@ -1,5 +1,4 @@
 -- `translate::control_change` meets its contract.
-use borrow.Author.Rules.{rules}
 use Rattle.ump.proofs.Auto.{auto}
 use Rattle.translate.specs.Translate.{control_changed}
 use Rattle.translate.proofs.control_change.Goals as goal

@@ -1,5 +1,4 @@
 -- `translate::controller` meets its contract.
-use borrow.Author.Rules.{rules}
 use Rattle.ump.proofs.Auto.{auto}
 use Rattle.translate.specs.Translate.{controller}
 use Rattle.translate.proofs.controller.Goals as goal

@@ -1,5 +1,4 @@
 -- `translate::controller_numbered` meets its contract.
-use borrow.Author.Rules.{rules}
 use Rattle.ump.proofs.Auto.{auto}
 use Rattle.translate.specs.Translate.{controller_numbered}
 use Rattle.translate.proofs.controller_numbered.Goals as goal

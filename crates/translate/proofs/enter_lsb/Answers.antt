@@ -1,5 +1,4 @@
 -- `translate::enter_lsb` meets its contract.
-use borrow.Author.Rules.{rules}
 use Rattle.ump.proofs.Auto.{auto}
 use Rattle.translate.specs.Translate.{lsb_entered}
 use Rattle.translate.proofs.enter_lsb.Goals as goal

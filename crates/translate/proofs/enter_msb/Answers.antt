@@ -1,5 +1,4 @@
 -- `translate::enter_msb` meets its contract.
-use borrow.Author.Rules.{rules}
 use native.Mathlib.Omega.{arith}
 use Rattle.translate_state.specs.State.{entry_held}
 use Rattle.translate.proofs.enter_msb.Goals as goal

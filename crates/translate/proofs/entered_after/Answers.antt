@@ -1,5 +1,4 @@
 -- `translate::entered_after` meets its contract.
-use borrow.Author.Rules.{rules}
 use Rattle.translate.specs.Translate.{entered_after}
 use Rattle.translate.proofs.entered_after.Goals as goal
 

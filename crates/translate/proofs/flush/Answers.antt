@@ -1,10 +1,7 @@
 -- `translate::flush` meets its contract.
-use borrow.Author.Rules.{rules}
 use mathlib.Core.Path.{sym, ◌∙◌}
 use native.Mathlib.Omega.{arith}
 use Rattle.translate_state.proofs.Allowed.{data-allowed}
-use Rattle.translate.specs.Translate.{translation_read, flush_reply, flushed_record}
-use mathlib.Core.Path.{◌≡◌}
 use Rattle.translate.proofs.flush.Goals as goal
 
 pub pending_words-requires : goal.pending_words-requires

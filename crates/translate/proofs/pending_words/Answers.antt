@@ -1,5 +1,4 @@
 -- `translate::pending_words` meets its contract.
-use borrow.Author.Rules.{rules}
 use Rattle.ump.proofs.Auto.{auto}
 use Rattle.translate.specs.Translate.{pending_words}
 use Rattle.translate.proofs.pending_words.Goals as goal

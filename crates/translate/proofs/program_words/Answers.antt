@@ -1,5 +1,4 @@
 -- `translate::program_words` meets its contract.
-use borrow.Author.Rules.{rules}
 use Rattle.ump.proofs.Auto.{auto}
 use Rattle.translate.specs.Translate.{program_words}
 use Rattle.translate.proofs.program_words.Goals as goal

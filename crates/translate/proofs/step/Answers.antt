@@ -1,5 +1,4 @@
 -- `translate::step` meets its contract.
-use borrow.Author.Rules.{rules}
 use Rattle.ump.proofs.Auto.{auto}
 use Rattle.translate.specs.Translate.{message_translated}
 use native.Mathlib.Omega.{arith}

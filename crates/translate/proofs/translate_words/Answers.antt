@@ -38,7 +38,7 @@ returns-then-is_message c =
     rw (a, t) (ap translation_read c.replying.ensures.0 ∙ (λ i. translation_read (h i).reply)) in
     let l : c.replying.result.translator ≡ record_after r w =
     rw (a, t) (c.replying.ensures.1 ∙ (λ i. with_state r (c.channel-c.ensures i) (h i).state)) in
-     record {
+    record {
       reply = e;
       state = l;
       listed = (e, l);
@@ -55,7 +55,7 @@ returns-then-is_allowed c =
     let r = c.args in
     let e : out_of_range ≡ translation_of r.translator r.word = rw (a, t) in
     let l : r.translator ≡ record_after r.translator r.word = rw (a, t) in
-     record {
+    record {
       reply = e;
       state = l;
       listed = (e, l);
@@ -71,7 +71,7 @@ returns c =
     let r = c.args in
     let e : out_of_range ≡ translation_of r.translator r.word = rw a in
     let l : r.translator ≡ record_after r.translator r.word = rw a in
-     record {
+    record {
       reply = e;
       state = l;
       listed = (e, l);

@@ -1,6 +1,5 @@
 -- `translate::up` meets its contract.
 use mathlib.Core.Path.{◌∙◌, ap}
-use borrow.Author.Rules.{rules}
 use Rattle.scale.proofs.Widen.{upscaled-given}
 use Rattle.translate.specs.Translate.{given_or0}
 use Rattle.translate.proofs.up.Goals as goal

@@ -1,7 +1,6 @@
 -- `translate::zero_up` meets its contract.
 use mathlib.Core.Path.{◌∙◌, ap}
 use native.Mathlib.Omega.{arith}
-use borrow.Author.Rules.{rules}
 use Rattle.scale.proofs.Widen.{zero-upscaled-given}
 use Rattle.translate.specs.Translate.{given_or0}
 use Rattle.translate.proofs.zero_up.Goals as goal

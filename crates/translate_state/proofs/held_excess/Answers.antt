@@ -1,5 +1,4 @@
 -- `translate_state::held_excess` meets its contract.
-use borrow.Author.Rules.{rules}
 use native.Mathlib.Omega.{arith}
 use Rattle.translate_state.proofs.Excess.{masked-tests, masked_small}
 use Rattle.translate_state.proofs.held_excess.Goals as goal
@@ -7,7 +6,7 @@ use Rattle.translate_state.proofs.held_excess.Goals as goal
 pub returns : goal.returns
 returns c =
     let x = c.args in
-     record {
+    record {
       is = masked-tests x.a x.b x.c x.d (omega arith) (omega arith) (omega arith) (omega arith);
       small = masked_small x.a x.b x.c x.d (omega arith) (omega arith) (omega arith) (omega arith);
     }

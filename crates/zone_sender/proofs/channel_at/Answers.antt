@@ -1,5 +1,4 @@
 -- `zone_sender::channel_at` meets its contract: the manager first, then the members.
-use borrow.Author.Rules.{rules}
 use Rattle.ump.proofs.Auto.{auto}
 use Rattle.zone_sender.specs.Zone.{channel_at}
 use Rattle.zone_sender.proofs.channel_at.Goals as goal

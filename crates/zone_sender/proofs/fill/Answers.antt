@@ -1,11 +1,9 @@
 -- `zone_sender::fill` meets its contract: each test in its turn, then all groups.
 use mathlib.Core.Path.{◌≡◌, refl, sym, ◌∙◌}
 use mathlib.Core.Bool.{true, false}
-use borrow.Author.Tests.{le-ltb, lt-ltb, not-true, not-false}
+use borrow.Author.Tests.{le-ltb, lt-ltb}
 use lib.ListN.{length}
 use Prim.Native.Nat.{◌+◌, ◌*◌}
-use native.Mathlib.Omega.{arith}
-use borrow.Author.Rules.{rules}
 use Rattle.mpe_sender.specs.Writers.{sensitivity_allowed}
 use Rattle.zone_sender.specs.Zone.{group_size, fill_reply}
 use Rattle.zone_sender.proofs.fill.Goals as goal
@@ -15,7 +13,7 @@ unfolding fill_reply
 returns-then-not-sensitivity_allowed c =
     let z = c.args.zone in
     let a : sensitivity_allowed z.at_manager ≡ false = sym c.sensitivity_allowed.ensures.is ∙ c.if-not-sensitivity_allowed.true in
-     record {
+    record {
       reply = rw a refl;
       buffer = rw a refl;
     }
@@ -25,7 +23,7 @@ unfolding fill_reply
 returns-then-not-sensitivity_allowed-2 c = let z = c.args.zone in
     let a : sensitivity_allowed z.at_manager ≡ true = sym c.sensitivity_allowed.ensures.is ∙ c.if-not-sensitivity_allowed.false in
     let b : sensitivity_allowed z.at_member ≡ false = sym c.sensitivity_allowed-2.ensures.is ∙ c.if-not-sensitivity_allowed-2.true in
-     record {
+    record {
       reply = rw (a, b) refl;
       buffer = rw (a, b) refl;
     }
@@ -35,7 +33,7 @@ unfolding fill_reply
 returns-then-got-needed c = let z = c.args.zone in
     let a : sensitivity_allowed z.at_manager ≡ true = sym c.sensitivity_allowed.ensures.is ∙ c.if-not-sensitivity_allowed.false in
     let b : sensitivity_allowed z.at_member ≡ true = sym c.sensitivity_allowed-2.ensures.is ∙ c.if-not-sensitivity_allowed-2.false in
-     record {
+    record {
       reply = rw (a, b, lt-ltb (length c.args.out.now) (group_size * (c.args.members + 1)) c.if-got-needed.true) refl;
       buffer = rw (a, b, lt-ltb (length c.args.out.now) (group_size * (c.args.members + 1)) c.if-got-needed.true) refl;
     }

@@ -1,12 +1,6 @@
 -- `zone_sender::write_at` meets its contract: the group of the k-th channel.
 use native.Mathlib.Omega.{arith}
 use Prim.Native.Nat.{◌+◌}
-use mathlib.Core.Path.{◌∙◌}
-use mathlib.Core.List.{◌++◌}
-use lib.ListN.{drop}
-use borrow.Author.Rules.{rules}
-use Rattle.mpe_sender.specs.Writers.{sensitivity_group}
-use Rattle.zone_sender.specs.Zone.{group_size}
 use Rattle.zone_sender.proofs.Groups.{channel-lt, on-allowed}
 use Rattle.zone_sender.proofs.write_at.Goals as goal
 

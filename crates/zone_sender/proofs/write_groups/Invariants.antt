@@ -1,13 +1,9 @@
 -- `zone_sender::write_groups` meets its contract: after k turns the first k groups stand in front of what was there.
-use mathlib.Core.Path.{◌≡◌, refl, ◌∙◌}
+use mathlib.Core.Path.{◌≡◌}
 use mathlib.Core.List.{◌++◌}
 use Prim.Native.Nat.{◌+◌, ◌*◌, ◌-◌, ◌≤◌}
-use native.Mathlib.Nat.{le_refl}
-use native.Mathlib.Omega.{arith}
 use lib.ListN.{length, drop}
-use borrow.Rule.Slice.PartMut.{mid_of, mid_len, same_len_mid}
 use Rattle.zone_sender.specs.Zone.{group_size, groups}
-use Rattle.zone_sender.proofs.Groups.{groups-more}
 use Rattle.zone_sender.proofs.write_groups.Given as goal
 
 abbrev pub invariant-loop-k : goal.invariant-loop-k

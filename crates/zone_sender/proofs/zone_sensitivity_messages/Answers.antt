@@ -2,11 +2,9 @@
 use lib.ListN.{length}
 use native.Mathlib.Omega.{arith}
 use mathlib.Core.Path.{◌≡◌, ◌∙◌, sym, ap}
-use borrow.Author.Rules.{rules}
-use Rattle.mpe_layout.specs.Layout.{members_of}
 use Rattle.mpe_sender.specs.Writers.{zone_found}
-use Rattle.mpe_sender.proofs.Zones.{active, inactive, manager-lt, members_fit}
-use Rattle.zone_sender.specs.Zone.{zone_words, fill_reply, zone_reply, filled, written_read}
+use Rattle.mpe_sender.proofs.Zones.{active, manager-lt, members_fit}
+use Rattle.zone_sender.specs.Zone.{zone_words, zone_reply, filled, written_read}
 use Rattle.zone_sender.proofs.Order.{written-in-order, answered-by-need}
 use Rattle.zone_sender.proofs.zone_sensitivity_messages.Goals as goal
 
@@ -23,7 +21,7 @@ returns c = let a = c.args in
     let xs = a.out.now in
     let p : (written_read c.fill.result ≡ zone_reply a.layout a.zone a.manager a.member (length xs)) × (c.fill.new.out ≡ filled (zone_reply a.layout a.zone a.manager a.member (length xs)) (zone_words a.layout a.zone a.manager a.member) xs) =
     rw (z.is-legal, z.some, ← z.is-lowest, ← z.is-members, ← c.manager.ensures) (c.fill.ensures.reply, c.fill.ensures.buffer) in
-     record {
+    record {
       reply = p.0;
       buffer = p.1;
       order = written-in-order a.layout a.zone a.manager a.member _ xs _ p.0 p.1;

@@ -4,7 +4,7 @@ use Rattle.byte_reader.proofs.Formed.{words-formed}
 use Rattle.byte_reader.proofs.Reader.new.Goals as goal
 
 pub returns : goal.returns
-returns c =  record {
-      is = refl;
-      formed = words-formed;
-    }
+returns c = record {
+  is = refl;
+  formed = words-formed;
+}

@@ -1,5 +1,4 @@
 -- `midi2_text::line::hex_digit` meets its contract.
-use borrow.Author.Rules.{rules}
 use Rattle.midi2_text.specs.Line.{hex_digit}
 use Rattle.ump.proofs.Auto.{auto}
 use Rattle.midi2_text.proofs.line.hex_digit.Goals as goal

@@ -1,9 +1,6 @@
 -- `mpe_allocator::MpeNoteAllocator::place` meets its contract. The loop's invariant: the best so far is the foremost of the channels passed, and `least` is its rank.
-use Rattle.std.proofs.Common.{◌≡◌, ◌-◌, ◌≤◌, refl, inl, arith}
-use Rattle.ump.proofs.Auto.{auto}
-use Rattle.mpe_allocator.specs.Choice.{Foremost}
-use Rattle.mpe_allocator.specs.Allocator.{with_note}
-use Rattle.mpe_allocator.proofs.Ranks.{SoFar, passed, found}
+use Rattle.std.proofs.Common.{◌-◌, ◌≤◌}
+use Rattle.mpe_allocator.proofs.Ranks.{SoFar}
 use Rattle.mpe_allocator.proofs.MpeNoteAllocator.place.Given as goal
 
 abbrev pub invariant-loop-c : goal.invariant-loop-c

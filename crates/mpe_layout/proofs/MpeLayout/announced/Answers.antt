@@ -1,7 +1,6 @@
 -- `mpe_layout::MpeLayout::announced` meets its contract: above 15 no change, else what is left beside the members.
 use mathlib.Core.Path.{ap, ◌∙◌}
 use borrow.Author.Tests.{le-ltb}
-use borrow.Author.Rules.{rules}
 use Rattle.ump.proofs.Auto.{auto}
 use Rattle.mpe_layout.specs.Layout.{members_of, left_beside, layout_for, with_mcm}
 use Rattle.mpe_layout.proofs.MpeLayout.announced.Goals as goal

@@ -1,5 +1,4 @@
 -- `mpe_layout::MpeLayout::is_layout` meets its contract: the bounds of the two counts.
-use borrow.Author.Rules.{rules}
 use Rattle.mpe_layout.specs.Layout.{legal}
 use Rattle.mpe_layout.proofs.MpeLayout.is_layout.Goals as goal
 

@@ -1,8 +1,6 @@
 -- `mpe_layout::MpeLayout::lowest_member` meets its contract: legal or refused; a legal count is below 16.
 use native.Mathlib.Omega.{arith}
-use mathlib.Core.Path.{ap, sym, ◌∙◌}
-use borrow.Author.Rules.{rules}
-use Rattle.mpe_layout.specs.Layout.{lowest_or_none}
+use mathlib.Core.Path.{sym, ◌∙◌}
 use Rattle.mpe_layout.proofs.Legal.{members-le}
 use Rattle.mpe_layout.proofs.MpeLayout.lowest_member.Goals as goal
 

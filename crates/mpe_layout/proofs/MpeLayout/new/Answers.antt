@@ -1,6 +1,5 @@
 -- `mpe_layout::MpeLayout::new` meets its contract: legal or refused.
 use mathlib.Core.Path.{sym, ◌∙◌}
-use borrow.Author.Rules.{rules}
 use Rattle.mpe_layout.specs.Layout.{legal}
 use Rattle.mpe_layout.proofs.MpeLayout.new.Goals as goal
 

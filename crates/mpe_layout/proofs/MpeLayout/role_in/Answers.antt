@@ -1,6 +1,5 @@
 -- `mpe_layout::MpeLayout::role_in` meets its contract: by the place in Lower, and outside of it by the one in Upper.
 use mathlib.Core.Path.{ap, sym, ◌∙◌}
-use borrow.Author.Rules.{rules}
 use Rattle.mpe_layout.specs.Layout.{role_at, role_of}
 use Rattle.mpe_layout.specs.declared.ZonePlace.TheVariants.{Outside}
 use Rattle.mpe_layout.proofs.MpeLayout.role_in.Goals as goal

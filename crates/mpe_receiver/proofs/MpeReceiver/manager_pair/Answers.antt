@@ -2,7 +2,6 @@
 use mathlib.Core.Path.{ap, ◌∙◌}
 use Rattle.mpe_pitch.specs.Remainder.{offset_with_remainder}
 use Rattle.mpe_receiver.specs.Read.{bend_at, manager_pair}
-use borrow.Author.Rules.{rules}
 use Rattle.mpe_receiver.proofs.MpeReceiver.manager_pair.Goals as goal
 
 pub returns : goal.returns

@@ -32,5 +32,5 @@ returns c =
     let m = managers-bounded _ c.args.self c.args.zone c.manager_pair-manager.ensures in
     let o = bounded _ _ _ c.pitch_offset_with_remainder-own.ensures.is in
     let own : c.pitch_offset_with_remainder-own.result ≡ offset_with_remainder (bend_at c.args.self c.args.channel) (sensitivity_of c.args.self c.args.zone false) =
-        c.pitch_offset_with_remainder-own.ensures.is ∙ (λ i. offset_with_remainder (c.pitch_bend.ensures i) (c.sensitivity.ensures i)) in
+    c.pitch_offset_with_remainder-own.ensures.is ∙ (λ i. offset_with_remainder (c.pitch_bend.ensures i) (c.sensitivity.ensures i)) in
     (λ i. record { offset = offsets-back m o i; remainder = remainders-back m o i }) ∙ (λ i. sum_of (c.manager_pair-manager.ensures i) (own i))

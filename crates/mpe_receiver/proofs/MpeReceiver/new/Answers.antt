@@ -5,8 +5,8 @@ use Rattle.mpe_receiver.proofs.Stored.{controls-stored}
 use Rattle.mpe_receiver.proofs.MpeReceiver.new.Goals as goal
 
 pub returns : goal.returns
-returns c =  record {
-      is = refl;
-      table = table-holds;
-      controls = controls-stored;
-    }
+returns c = record {
+  is = refl;
+  table = table-holds;
+  controls = controls-stored;
+}

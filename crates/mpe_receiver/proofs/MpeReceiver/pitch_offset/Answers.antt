@@ -7,8 +7,7 @@ use Rattle.ump.specs.Outcome.{given}
 use Rattle.mpe_pitch.proofs.Order.{within-fits}
 use Rattle.mpe_receiver.specs.Read.{pair_read}
 use Rattle.mpe_receiver.proofs.Range.{offset-range}
-use Rattle.mpe_receiver.proofs.Ratio.{pair-offset, pair-none}
-use borrow.Author.Rules.{rules}
+use Rattle.mpe_receiver.proofs.Ratio.{pair-offset}
 use Rattle.mpe_receiver.proofs.MpeReceiver.pitch_offset.Goals as goal
 
 pub returns-in-Pair : goal.returns-in-Pair
@@ -19,7 +18,7 @@ returns-in-Pair c =
     let o = pair-offset a.self a.channel p e in
     let w = offset-range a.self a.channel p.offset o in
     let is = ap given (to_z-of_z w32 p.offset (within-fits 2565714 2565400 p.offset w (lit≤ tt) (lit< tt))) ∙ sym o in
-     record {
+    record {
       is = is;
       within = λ z given-as. offset-range a.self a.channel z (sym is ∙ given-as);
     }

@@ -6,7 +6,6 @@ use Rattle.mpe_zones.specs.Zones.{role_held}
 use Rattle.mpe_receiver.specs.Read.{pair_by_role}
 use Rattle.mpe_receiver.specs.Ratio.{RatioByRole}
 use Rattle.mpe_receiver.proofs.Ratio.{ratio-by-role}
-use borrow.Author.Rules.{rules}
 use Rattle.mpe_receiver.proofs.MpeReceiver.pitch_offset_with_remainder.Goals as goal
 
 pub returns : goal.returns
@@ -15,7 +14,7 @@ returns c =
     let is = c.pair_by_role.ensures
     ∙ ap (pair_by_role a.self a.channel)
     (c.role.ensures ∙ ap (λ z. role_held z.layout a.channel) c.zones.ensures) in
-     record {
+    record {
       is = is;
       ratio = subst (λ (x : Outcome OffsetWithRemainder). RatioByRole a.self a.channel x) (sym is) (ratio-by-role a.self a.channel);
     }

@@ -1,13 +1,7 @@
 -- `mpe_receiver::MpeReceiver::rest` meets its contract.
-use borrow.Author.Rules.{rules}
-use native.Mathlib.Omega.{arith}
 use Prim.Native.Nat.{◌≤◌, ◌-◌}
-use mathlib.Core.Path.{◌≡◌, refl, ap, ◌∙◌}
-use mathlib.Core.Bool.{true, false}
-use mathlib.Core.Logic.{⊎_elim}
-use Rattle.mpe_reset.specs.Reset.{named}
-use Rattle.mpe_receiver.specs.Receive.{put_where, rest_upto}
-use Rattle.mpe_receiver.proofs.Rest.{rest-next}
+use mathlib.Core.Path.{◌≡◌}
+use Rattle.mpe_receiver.specs.Receive.{rest_upto}
 use Rattle.mpe_receiver.proofs.MpeReceiver.rest.Given as goal
 
 abbrev pub invariant-loop-i : goal.invariant-loop-i

@@ -1,5 +1,4 @@
 -- `mpe_receiver::MpeReceiver::rest_by` meets its contract.
-use borrow.Author.Rules.{rules}
 use Rattle.mpe_receiver.specs.Receive.{rest_upto}
 use Rattle.mpe_receiver.proofs.Parts.{rest-none}
 use mathlib.Core.Path.{ap, sym, ◌∙◌}

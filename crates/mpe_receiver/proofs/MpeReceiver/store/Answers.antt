@@ -1,5 +1,4 @@
 -- `mpe_receiver::MpeReceiver::store` meets its contract.
-use borrow.Author.Rules.{rules}
 use Rattle.ump.proofs.Auto.{auto}
 use Rattle.mpe_receiver.specs.Receive.{stored}
 use Rattle.mpe_receiver.proofs.MpeReceiver.store.Goals as goal

@@ -1,9 +1,7 @@
 -- `mpe_zones::Zones::activate` meets its contract.
 use mathlib.Core.Path.{ap, ◌∙◌}
-use borrow.Author.Rules.{rules}
 use Rattle.mpe_zones.specs.Zones.{with_sensitivities, with_mono, sensitivity_put, activated}
-use mathlib.Core.Bool.{true, false}
-use Rattle.mpe_zones.proofs.Slots.{slot-fits}
+use mathlib.Core.Bool.{false}
 use Rattle.mpe_zones.proofs.Zones.activate.Goals as goal
 
 pub returns : goal.returns

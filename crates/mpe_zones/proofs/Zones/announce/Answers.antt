@@ -2,7 +2,6 @@
 use Prim.Native.Nat.{ℕ}
 use mathlib.Core.Path.{◌≡◌, ap, sym, ◌∙◌}
 use mathlib.Core.Bool.{Bool, true, false, true≢false}
-use borrow.Author.Rules.{rules}
 use borrow.Author.Tests.{lt-ltb, le-ltb}
 use Rattle.ump.specs.Outcome.{Outcome, given, declined, out_of_range}
 use Rattle.ump.proofs.Cases.{by-test, chosen, passed}
@@ -45,7 +44,7 @@ pub returns-then-members-gt15 : goal.returns-then-members-gt15
 unfolding announced_reply zones_announced
 returns-then-members-gt15 c =
     let more = lt-ltb _ _ c.if-members-gt15.true in
-     record {
+    record {
       reply = rw more c.declined.ensures.0;
       zones = rw more c.declined.ensures.1;
       activates = activates;
@@ -57,7 +56,7 @@ returns-in_default c =
     let a = c.args in
     let within = le-ltb _ _ c.if-members-gt15.false in
     let h = declined-illegal a.self.layout a.zone a.members (ap layout_made (sym c.in_default.is) ∙ c.with_mcm.ensures) in
-     record {
+    record {
       reply = rw (within, h) c.declined-in_default.ensures.0;
       zones = rw (within, h) c.declined-in_default.ensures.1;
       activates = activates;
@@ -76,7 +75,7 @@ returns c =
     let zones = c.activate_if-zones.ensures ∙ ap (λ x. activated_if a.members (with_layout a.self x) a.zone) to in
     let found : of_legal l (of_legal (with_mcm l a.zone a.members) (given (announcement_mask l (with_mcm l a.zone a.members) a.zone)))
     ≡ given (announcement_mask l (with_mcm l a.zone a.members) a.zone) = rw (h, mcm-legal l a.zone a.members h) in
-     record {
+    record {
       reply = rw (within, h) (ap given (c.mask_or_zero-mask.ensures ∙ ap mask_or_zero (mask ∙ found)));
       zones = rw (within, h) zones;
       activates = activates;

@@ -1,5 +1,4 @@
 -- `parameters::ParameterState::control` meets its contract.
-use borrow.Author.Rules.{rules}
 use Rattle.ump.proofs.Auto.{auto}
 use Rattle.parameters.specs.State.{controlled}
 use Rattle.parameters.proofs.ParameterState.control.Goals as goal

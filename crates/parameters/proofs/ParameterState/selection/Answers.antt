@@ -1,5 +1,4 @@
 -- `parameters::ParameterState::selection` meets its contract.
-use borrow.Author.Rules.{rules}
 use Rattle.parameters.specs.State.{selection_of}
 use Rattle.parameters.proofs.ParameterState.selection.Goals as goal
 

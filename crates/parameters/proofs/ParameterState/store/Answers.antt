@@ -1,5 +1,4 @@
 -- `parameters::ParameterState::store` meets its contract.
-use borrow.Author.Rules.{rules}
 use Rattle.ump.proofs.Auto.{auto}
 use Rattle.parameters.specs.State.{number_stored}
 use Rattle.parameters.proofs.ParameterState.store.Goals as goal

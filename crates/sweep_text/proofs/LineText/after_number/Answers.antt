@@ -1,11 +1,10 @@
 -- `sweep_text::LineText::after_number` meets its contract: each turn puts the last digit of what is left before the text.
-use mathlib.Core.Path.{◌≡◌, refl, ◌∙◌, ap, sym}
+use mathlib.Core.Path.{◌≡◌, ◌∙◌, ap, sym}
 use mathlib.Core.List.{List, ◌++◌}
-use Prim.Native.Nat.{ℕ, ◌+◌, ◌-◌, ◌/◌, ◌^◌, ◌<◌, ◌≤◌}
+use Prim.Native.Nat.{ℕ, ◌+◌, ◌-◌, ◌/◌}
 use native.Mathlib.Omega.{arith}
-use borrow.Author.Rules.{rules}
 use Rattle.sweep_text.specs.Decimal.{decimal}
-use Rattle.sweep_text.specs.Line.{text_of, Filled}
+use Rattle.sweep_text.specs.Line.{text_of}
 use Rattle.sweep_text.proofs.Digits.{one-digit, last-first, one_fewer}
 use Rattle.sweep_text.proofs.LineText.after_number.Goals as goal
 
@@ -26,8 +25,7 @@ loop-rest-preserved c =
 pub returns : goal.returns
 returns c =
     let k = c.loop-rest in
-    let put = c.after.ensures in
-    (
+    let put = c.after.ensures in (
       put.0 ∙ (sym (ap (λ (x : List ℕ). x ++ text_of k.line) (one-digit k.rest (omega arith))) ∙ k.invariant.0),
       omega arith,
       put.2,

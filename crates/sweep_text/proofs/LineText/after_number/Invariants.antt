@@ -1,12 +1,9 @@
 -- `sweep_text::LineText::after_number` meets its contract: each turn puts the last digit of what is left before the text.
-use mathlib.Core.Path.{◌≡◌, refl, ◌∙◌, ap, sym}
-use mathlib.Core.List.{List, ◌++◌}
-use Prim.Native.Nat.{ℕ, ◌+◌, ◌-◌, ◌/◌, ◌^◌, ◌<◌, ◌≤◌}
-use native.Mathlib.Omega.{arith}
-use borrow.Author.Rules.{rules}
+use mathlib.Core.Path.{◌≡◌}
+use mathlib.Core.List.{◌++◌}
+use Prim.Native.Nat.{◌+◌, ◌-◌, ◌^◌, ◌<◌, ◌≤◌}
 use Rattle.sweep_text.specs.Decimal.{decimal}
 use Rattle.sweep_text.specs.Line.{text_of, Filled}
-use Rattle.sweep_text.proofs.Digits.{one-digit, last-first, one_fewer}
 use Rattle.sweep_text.proofs.LineText.after_number.Given as goal
 
 abbrev pub invariant-loop-rest : goal.invariant-loop-rest

@@ -1,5 +1,4 @@
 -- `translate::channel::complete` meets its contract.
-use borrow.Author.Rules.{rules}
 use Rattle.translate_state.specs.State.{completed}
 use Rattle.translate.proofs.channel.complete.Goals as goal
 

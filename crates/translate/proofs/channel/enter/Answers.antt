@@ -1,5 +1,4 @@
 -- `translate::channel::enter` meets its contract.
-use borrow.Author.Rules.{rules}
 use Rattle.translate_state.specs.State.{entry_held}
 use Rattle.translate.proofs.channel.enter.Goals as goal
 

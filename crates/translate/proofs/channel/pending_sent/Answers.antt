@@ -1,5 +1,4 @@
 -- `translate::channel::pending_sent` meets its contract.
-use borrow.Author.Rules.{rules}
 use Rattle.ump.proofs.Auto.{auto}
 use Rattle.translate_state.specs.State.{pending_sent}
 use Rattle.translate.proofs.channel.pending_sent.Goals as goal

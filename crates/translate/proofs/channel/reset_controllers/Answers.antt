@@ -1,5 +1,4 @@
 -- `translate::channel::reset_controllers` meets its contract.
-use borrow.Author.Rules.{rules}
 use Rattle.ump.proofs.Auto.{auto}
 use Rattle.translate_state.specs.State.{controllers_reset}
 use Rattle.translate.proofs.channel.reset_controllers.Goals as goal

@@ -1,5 +1,4 @@
 -- `translate::channel::select` meets its contract.
-use borrow.Author.Rules.{rules}
 use Rattle.ump.proofs.Auto.{auto}
 use Rattle.translate_state.specs.State.{selected}
 use Rattle.translate.proofs.channel.select.Goals as goal

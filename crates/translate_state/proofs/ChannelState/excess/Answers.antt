@@ -1,5 +1,4 @@
 -- `translate_state::ChannelState::excess` meets its contract.
-use borrow.Author.Rules.{rules}
 use native.Mathlib.Omega.{arith}
 use Rattle.translate_state.specs.State.{held_allowed, flags_allowed, state_allowed}
 use Rattle.translate_state.proofs.Excess.{sum-zero, regrouped}
@@ -12,7 +11,7 @@ returns c =
     let one = c.held_excess.ensures in
     let two = c.held_excess-2.ensures in
     let flags = c.flags_excess.ensures in
-     record {
+    record {
       is = rw (sum-zero _ _, sum-zero _ _, one.is, two.is, flags.is)
           (regrouped (held_allowed s.rpn_msb) (held_allowed s.rpn_lsb) (held_allowed s.nrpn_msb) (held_allowed s.nrpn_lsb) (held_allowed s.data_msb) (held_allowed s.bank_msb) (held_allowed s.bank_lsb) (flags_allowed s.flags));
       small = omega arith;

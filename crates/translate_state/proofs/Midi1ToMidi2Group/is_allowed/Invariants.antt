@@ -1,12 +1,8 @@
 -- `translate_state::Midi1ToMidi2Group::is_allowed` meets its contract.
-use borrow.Author.Rules.{rules}
-use mathlib.Core.Path.{◌≡◌, refl}
+use mathlib.Core.Path.{◌≡◌}
 use Prim.Native.Nat.{◌*◌, ◌-◌, ◌^◌, ◌≤◌}
-use native.Mathlib.Omega.{arith}
-use native.Mathlib.Numerals.{add-one}
 use lib.Dec.{eqb}
 use Rattle.translate_state.specs.State.{allowed_to}
-use Rattle.translate_state.proofs.Excess.{sum-zero}
 use Rattle.translate_state.proofs.Midi1ToMidi2Group.is_allowed.Given as goal
 
 abbrev pub invariant-loop-c : goal.invariant-loop-c

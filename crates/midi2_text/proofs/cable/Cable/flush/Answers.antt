@@ -1,5 +1,4 @@
 -- `midi2_text::cable::Cable::flush` meets its contract.
-use borrow.Author.Rules.{rules}
 use Rattle.translate.specs.Translate.{translation_read}
 use Rattle.midi2_text.proofs.Words.{flushed-more, none-flushed}
 use Rattle.midi2_text.proofs.Answered.{one-flush-more, no-flush-after}
@@ -7,7 +6,7 @@ use Rattle.midi2_text.proofs.cable.Cable.flush.Goals as goal
 
 pub returns : goal.returns
 returns c =
-     record {
+    record {
       reply = cc;
       cable = cc;
       list = (λ channels. flushed-more _ _ _ (translation_read c.of_parts.result.reply) channels (cc) (cc), none-flushed _);

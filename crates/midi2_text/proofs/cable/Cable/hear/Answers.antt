@@ -1,5 +1,4 @@
 -- `midi2_text::cable::Cable::hear` meets its contract.
-use borrow.Author.Rules.{rules}
 use Rattle.translate.specs.Translate.{translation_read}
 use Rattle.midi2_text.proofs.Words.{heard-more, none-heard}
 use Rattle.midi2_text.proofs.Answered.{one_more, none_after}
@@ -7,7 +6,7 @@ use Rattle.midi2_text.proofs.cable.Cable.hear.Goals as goal
 
 pub returns : goal.returns
 returns c =
-     record {
+    record {
       reply = cc;
       cable = cc;
       list = (λ bytes. heard-more _ _ _ (translation_read c.of_parts.result.reply) bytes (cc) (cc), none-heard _);
