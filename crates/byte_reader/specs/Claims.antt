@@ -22,7 +22,7 @@ IsNoStatus b = (b ≤ 0x7F) ⊎ ((0xF0 ≤ b) × (b ≤ 0xFF))
 pub record EachByte (r : Reader) (b : ℕ) (x : ReadStep) : Type 0 where
   -- 80–EF: quiet; it becomes the running status, and a begun message is forgotten
   pub status : 0x80 ≤ b → b ≤ 0xEF → x ≡ reading (reader_at b 0x80) Quiet
-  -- F8, FA, FB, FC, FE, FF: real_time; the reader does not change, not even for FF
+  -- F8, FA, FB, FC, FE, FF: real-time; the reader does not change, not even for FF
   pub real_time : IsRealTime b → x ≡ reading r (RealTime b)
   -- F9, FD: dropped; the reader does not change
   pub undefined : IsUndefined b → x ≡ reading r Dropped

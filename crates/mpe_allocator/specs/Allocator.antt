@@ -11,7 +11,7 @@ use Rattle.mpe_allocator.specs.declared.NoteReply.{NoteReply}
 use Rattle.mpe_allocator.specs.declared.NoteReply.TheVariants.{Channel, OutOfRange, NoMembers}
 use Rattle.mpe_allocator.specs.Choice.{held_on, mark_of, Foremost, Chosen, choice}
 
--- no held note, no release, with the same_note option on or off
+-- no held note, no release, with the same-note option on or off
 abbrev pub emptied : Bool → MpeNoteAllocator
 emptied option =
     record {
@@ -88,7 +88,7 @@ one_fewer a c =
 unfoldable pub without_note : MpeNoteAllocator → ℕ → MpeNoteAllocator
 without_note a c = when held_on a c == 0 then a else one_fewer a c
 
--- the same_note option on or off
+-- the same-note option on or off
 abbrev pub with_option : MpeNoteAllocator → Bool → MpeNoteAllocator
 with_option a on =
     record {

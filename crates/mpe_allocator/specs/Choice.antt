@@ -30,7 +30,7 @@ tie_first Upper c b = nat_le b c
 unfoldable pub smaller_first : ℕ → ℕ → Bool → Bool
 smaller_first x y rest = when x == y then rest else nat_lt x y
 
--- under the same_note option, a free channel recalls the note that it played last (A.3)
+-- under the same-note option, a free channel recalls the note that it played last (A.3)
 unfoldable pub recalls : Bool → ℕ → ℕ → ℕ → Bool
 recalls option held last mark = when option then (when nat_eq held 0 then (last == mark) else false) else false
 

@@ -31,7 +31,7 @@ abbrev pub TakenOnTie : MpeZone → ℕ → ℕ → Type 0
 TakenOnTie Lower c b = c ≤ b
 TakenOnTie Upper c b = b ≤ c
 
--- with same_note on, a free channel whose last note is this one; notes are taken modulo 128, and a last note is kept with 0x80 added
+-- with same-note on, a free channel whose last note is this one; notes are taken modulo 128, and a last note is kept with 0x80 added
 abbrev pub LastPlayed : MpeNoteAllocator → ℕ → ℕ → Type 0
 LastPlayed a note b = (a.same_note ≡ true) × (held_on a b ≡ 0) × (last_on a b ≡ 0x80 + note % 128)
 

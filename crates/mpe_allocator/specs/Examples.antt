@@ -39,7 +39,7 @@ upper8 note = note_on (layout_of 0 8) Upper note
 abbrev on : ℕ → AllocatorAnswer
 on channel = note_reply (Channel channel)
 
--- same_note on; note 60 was the last of channels 1, 2, 13 and 14, and they were released at the same clock
+-- same-note on; note 60 was the last of channels 1, 2, 13 and 14, and they were released at the same clock
 abbrev released_together : MpeNoteAllocator
 released_together =
     record {
@@ -71,7 +71,7 @@ allocator_table =
     -- then the older release
     ∷ example (emptied false) (upper2 60 ∷ upper2 61 ∷ note_off 13 ∷ note_off 14 ∷ upper2 62 ∷ []) (on 14 ∷ on 13 ∷ nothing ∷ nothing ∷ on 13 ∷ [])
     ∷ example (emptied false) (lower2 60 ∷ lower2 61 ∷ note_off 2 ∷ note_off 1 ∷ lower2 62 ∷ []) (on 1 ∷ on 2 ∷ nothing ∷ nothing ∷ on 2 ∷ [])
-    -- with same_note on the free channel of the note, without it the older release
+    -- with same-note on the free channel of the note, without it the older release
     ∷ example (emptied true) (lower2 60 ∷ lower2 61 ∷ note_off 1 ∷ note_off 2 ∷ lower2 61 ∷ []) (on 1 ∷ on 2 ∷ nothing ∷ nothing ∷ on 2 ∷ [])
     ∷ example (emptied false) (lower2 60 ∷ lower2 61 ∷ note_off 1 ∷ note_off 2 ∷ lower2 61 ∷ []) (on 1 ∷ on 2 ∷ nothing ∷ nothing ∷ on 1 ∷ [])
     -- of two free channels of the note the later release
@@ -90,7 +90,7 @@ allocator_table =
     (on 14 ∷ on 13 ∷ on 14 ∷ on 13 ∷ nothing ∷ nothing ∷ on 13 ∷ [])
     -- the release after 4,294,967,295 is 0
     ∷ example (at_clock 4294967294 0) (lower2 60 ∷ lower2 61 ∷ note_off 1 ∷ note_off 2 ∷ lower2 62 ∷ []) (on 1 ∷ on 2 ∷ nothing ∷ nothing ∷ on 2 ∷ [])
-    -- a count stops at 255; a note_off without a note changes nothing
+    -- a count stops at 255; a note-off without a note changes nothing
     ∷ example (at_clock 0 255) (note_on (layout_of 1 0) Lower 60 ∷ active_notes 1 ∷ note_off 1 ∷ active_notes 17 ∷ note_off 2 ∷ active_notes 2 ∷ []) (on 1 ∷ count 255 ∷ nothing ∷ count 254 ∷ nothing ∷ count 0 ∷ [])
     -- a reset keeps the option
     ∷ example (emptied false) (set_same_note true ∷ lower2 60 ∷ reset ∷ same_note ∷ active_notes 1 ∷ []) (nothing ∷ on 1 ∷ nothing ∷ option true ∷ count 0 ∷ [])

@@ -13,7 +13,7 @@ abbrev pub from_manager : MpeZone → ℕ → ℕ
 from_manager Lower place = 1 + place
 from_manager Upper place = 14 - place
 
--- a note_on for each of the notes
+-- a note-on for each of the notes
 unfoldable pub note_ons : MpeLayout → MpeZone → List ℕ → List AllocatorCall
 note_ons l zone [] = []
 note_ons l zone (note ∷ notes) = note_on l zone note ∷ note_ons l zone notes

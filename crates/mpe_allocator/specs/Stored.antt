@@ -1,4 +1,4 @@
--- What a note_on and a note_off leave on each channel, after whatever calls on a new allocator (document 01, "The sending side").
+-- What a note-on and a note-off leave on each channel, after whatever calls on a new allocator (document 01, "The sending side").
 use Rattle.std.specs.Prelude.{◌≡◌, ℕ, ◌+◌, ◌%◌, ◌<◌, min, List, ◌≢◌}
 use Rattle.mpe_layout.specs.declared.MpeZone.{MpeZone}
 use Rattle.mpe_layout.specs.declared.MpeLayout.{MpeLayout}
@@ -17,7 +17,7 @@ pub record NoteStored (a after : MpeNoteAllocator) (note c : ℕ) : Type 0 where
   pub same_clock : after.clock ≡ a.clock
   pub same_option : after.same_note ≡ a.same_note
 
--- a note_off that met a note on channel c: one fewer there, released at the next clock, which is 0 after 4,294,967,295; nothing else changes
+-- a note-off that met a note on channel c: one fewer there, released at the next clock, which is 0 after 4,294,967,295; nothing else changes
 pub record NoteReleased (a after : MpeNoteAllocator) (c : ℕ) : Type 0 where
   pub one_fewer : held_on after c + 1 ≡ held_on a c
   pub released : released_on after c ≡ (a.clock + 1) % 4294967296
@@ -27,7 +27,7 @@ pub record NoteReleased (a after : MpeNoteAllocator) (c : ℕ) : Type 0 where
   pub notes : (b : ℕ) → last_on after b ≡ last_on a b
   pub same_option : after.same_note ≡ a.same_note
 
--- each note_on that gets a channel and each note_off, its channel taken modulo 16; one that meets no note changes nothing
+-- each note-on that gets a channel and each note-off, its channel taken modulo 16; one that meets no note changes nothing
 pub record CallsStore (a : MpeNoteAllocator) : Type 0 where
   pub stored : (l : MpeLayout) (zone : MpeZone) (note c : ℕ) → answer_of a (note_on l zone note) ≡ note_reply (Channel c) → NoteStored a (after_call a (note_on l zone note)) note c
   pub released : (channel : ℕ) → 0 < held_on a (channel % 16) → NoteReleased a (after_call a (note_off channel)) (channel % 16)

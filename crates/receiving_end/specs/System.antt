@@ -26,7 +26,7 @@ EndDropsData e = (calls : List Call) (lent : Bool) (d : ℕ) → NoStatusGiven c
 
 -- the byte b is given to the end e, lent or by value
 pub record SystemByte (e : End) (lent : Bool) (b : ℕ) : Type 0 where
-  -- F8, FA, FB, FC, FE, FF: real_time; the end does not change, not even for FF
+  -- F8, FA, FB, FC, FE, FF: real-time; the end does not change, not even for FF
   pub real_time : IsRealTime b → (answer e (byte_call lent b) ≡ replied (RealTime b)) × (next e (byte_call lent b) ≡ e)
   -- F9, FD: dropped; the end does not change
   pub undefined : IsUndefined b → (answer e (byte_call lent b) ≡ replied Dropped) × (next e (byte_call lent b) ≡ e)
@@ -49,7 +49,7 @@ port_replies =
 abbrev pub calls_between : MpeLayout → List Call
 calls_between l = byte_by_value 0x01 ∷ set_layout l ∷ byte_lent 0xF5 ∷ byte_by_value 0xFF ∷ []
 
--- so on every end; of a new end the replies to port_select bytes; and there are calls without a status byte
+-- so on every end; of a new end the replies to port-select bytes; and there are calls without a status byte
 pub record SystemBytes : Type 0 where
   pub each : (e : End) (lent : Bool) (b : ℕ) → SystemByte e lent b
   pub port_select : map (λ bytes. answers new_end (map byte_by_value bytes)) port_bytes ≡ map (map replied) port_replies
