@@ -17,7 +17,7 @@ use Rattle.mpe_event.specs.declared.Decoded.{Decoded}
 use Rattle.mpe_event.specs.declared.Decoded.TheVariants.{Nothing, Configuration, BendSensitivity}
 use Rattle.mpe_event.specs.declared.ZonesUpdate.{ZonesUpdate}
 use Rattle.mpe_zones.specs.declared.Zones.{Zones}
-use Rattle.mpe_event.specs.Update.{announced, configured_by, configured_as, announced_on, sensitivity_update, mode_set, decoded, updated_as, message_update}
+use Rattle.mpe_event.specs.Update.{configured_by, configured_as, announced_on, sensitivity_update, mode_set, decoded, updated_as, message_update}
 use Rattle.mpe_zones.specs.Zones.{role_held}
 use Rattle.mpe_zones.specs.WellFormed.{ZonesFormed}
 use Rattle.mpe_zones.proofs.WellFormed.{mono-formed, announced-formed, changed-formed}

@@ -6,7 +6,7 @@ use mathlib.Core.Bool.{true}
 use mathlib.Core.List.{List, [], ◌∷◌, ◌++◌}
 use mathlib.Core.Logic.{inl}
 use native.Mathlib.Omega.{arith}
-use lib.ListN.{length, get_or, set}
+use lib.ListN.{length}
 use lib.Seq.{get_or-set_same, set-set}
 use Rattle.ump.specs.Controller.{rpn_of}
 use Rattle.parameter_event.specs.declared.Parameter.TheVariants.{Registered}

@@ -13,7 +13,7 @@ use Rattle.translate.specs.declared.Translation.TheVariants.{Words, Nothing, Out
 use Rattle.translate.specs.declared.Stepped.{Stepped}
 use Rattle.translate_state.specs.State.{held, kind_in, pending_in, null_after_in, new_record, state_on, pending_sent, mcm_selected, entry_held}
 use Rattle.translate.specs.Translate.{translation_read, translation_of, record_after, controller_numbered, controller, pending_words, entered_after, lsb_entered, control_changed, program_words, message_translated}
-use Rattle.translate.specs.Lists.{flush, translator_after_all, words_answered, words_from, ListContinues, Given, with_words, ExactlyAccepted}
+use Rattle.translate.specs.Lists.{translator_after_all, words_answered, words_from, ListContinues, Given, with_words, ExactlyAccepted}
 use Rattle.translate.proofs.Always.{new-formed, on-allowed, always-formed}
 use Rattle.translate.proofs.Each.{at}
 use Rattle.translate.proofs.Reached.{leads}

@@ -15,7 +15,7 @@ use Rattle.translate_state.specs.State.{state_on, pending_sent}
 use Rattle.translate.specs.declared.Translation.{Translation}
 use Rattle.translate.specs.declared.Translation.TheVariants.{Nothing}
 use Rattle.translate.specs.Translate.{translation_read, pending_words, channel_step, control_changed, message_translated, with_state, word_step, translation_of, record_after, flush_reply, flushed_record}
-use Rattle.translate.specs.Lists.{translate_words, flush, words_answered, words_from, translator_after_all, control, Formed}
+use Rattle.translate.specs.Lists.{translate_words, words_answered, words_from, translator_after_all, control, Formed}
 use Rattle.translate.specs.Rules.{record_after_all}
 use Rattle.translate.proofs.Refused.{answer-accepted, record-accepted}
 use Rattle.translate.proofs.Always.{on-set, after-formed}

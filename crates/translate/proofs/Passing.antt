@@ -20,7 +20,7 @@ use Rattle.translate.specs.declared.Translation.{Translation}
 use Rattle.translate.specs.declared.Translation.TheVariants.{Words, Nothing, OutOfRange}
 use Rattle.translate.specs.declared.Stepped.{Stepped}
 use Rattle.translate.specs.Translate.{translation_read, first_word, controller_numbered, controller, pending_words, channel_step, entered_after, lsb_entered, passed_on, control_changed, program_words, message_translated, with_state, record_after, flushed_record}
-use Rattle.translate.specs.Lists.{translate_words, control, Formed}
+use Rattle.translate.specs.Lists.{translate_words, Formed}
 use Rattle.translate.specs.Rules.{program_change, PassesAs, held_controller, control_words, PassingRules, BankRules}
 use Rattle.translate.proofs.Always.{on-other, after-formed}
 use Rattle.translate.proofs.Messages.{Fits, fits_8, fits-9, fits-A, fits-B, fits-C, fits-D, fits-E, answer-of, record_of, state-of, ended, message, said, silent}

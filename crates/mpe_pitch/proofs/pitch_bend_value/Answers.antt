@@ -30,6 +30,10 @@ center d z h = rw (eq-eqb d 0 h)
 swung : (d : ℕ) (z : ℤ) → (d ≡ 0 → ⊥) → bend_in d z ≡ placed z (nearest (8192 * nat_abs z) d)
 swung d z h = rw (ne_eqb d 0 h)
 
+-- the swing, by the magnitude and the range that its arguments are
+swing-is : (k u r m d : ℕ) → k ≡ min 8192 (nearest (8192 * u) r) → u ≡ m → r ≡ d → k ≡ min 8192 (nearest (8192 * m) d)
+swing-is k u r m d p q e = p ∙ (λ i. min 8192 (nearest (8192 * q i) (e i)))
+
 pub returns-then-range-eq0 : goal.returns-then-range-eq0
 unfolding pitch_bend_value
 returns-then-range-eq0 c =
@@ -40,8 +44,7 @@ pub returns-then-offset-lt0 : goal.returns-then-offset-lt0
 unfolding pitch_bend_value
 returns-then-offset-lt0 c =
     let a = c.args in
-    let k = (let z : c.swing-k.result ≡ min 8192 (nearest (8192 * nat_abs c.args.offset) (range_of c.args.sensitivity)) = c.swing-k.ensures
-    ∙ (λ i. min 8192 (nearest (8192 * (c.unsigned_abs.ensures ∙ ap nat_abs (to_z-of_z w32 c.args.offset c.ranges.offset)) i) (c.units-range.ensures.0 i))) in z) in
+    let k = swing-is _ _ _ (nat_abs a.offset) (range_of a.sensitivity) c.swing-k.ensures (c.unsigned_abs.ensures ∙ ap nat_abs (to_z-of_z w32 a.offset c.ranges.offset)) c.units-range.ensures.0 in
     rw (swung (range_of a.sensitivity) a.offset (omega arith), below a.offset (nearest (8192 * nat_abs a.offset) (range_of a.sensitivity)) c.ranges.offset c.if-offset-lt0.true)
     (omega arith)
 
@@ -49,8 +52,7 @@ pub returns-then-value-gt16383 : goal.returns-then-value-gt16383
 unfolding pitch_bend_value
 returns-then-value-gt16383 c =
     let a = c.args in
-    let k = (let z : c.swing-k.result ≡ min 8192 (nearest (8192 * nat_abs c.args.offset) (range_of c.args.sensitivity)) = c.swing-k.ensures
-    ∙ (λ i. min 8192 (nearest (8192 * (c.unsigned_abs.ensures ∙ ap nat_abs (to_z-of_z w32 c.args.offset c.ranges.offset)) i) (c.units-range.ensures.0 i))) in z) in
+    let k = swing-is _ _ _ (nat_abs a.offset) (range_of a.sensitivity) c.swing-k.ensures (c.unsigned_abs.ensures ∙ ap nat_abs (to_z-of_z w32 a.offset c.ranges.offset)) c.units-range.ensures.0 in
     rw (swung (range_of a.sensitivity) a.offset (omega arith), above a.offset (nearest (8192 * nat_abs a.offset) (range_of a.sensitivity)) c.ranges.offset c.if-offset-lt0.false)
     (omega arith)
 
@@ -58,7 +60,6 @@ pub returns : goal.returns
 unfolding pitch_bend_value
 returns c =
     let a = c.args in
-    let k = (let z : c.swing-k.result ≡ min 8192 (nearest (8192 * nat_abs c.args.offset) (range_of c.args.sensitivity)) = c.swing-k.ensures
-    ∙ (λ i. min 8192 (nearest (8192 * (c.unsigned_abs.ensures ∙ ap nat_abs (to_z-of_z w32 c.args.offset c.ranges.offset)) i) (c.units-range.ensures.0 i))) in z) in
+    let k = swing-is _ _ _ (nat_abs a.offset) (range_of a.sensitivity) c.swing-k.ensures (c.unsigned_abs.ensures ∙ ap nat_abs (to_z-of_z w32 a.offset c.ranges.offset)) c.units-range.ensures.0 in
     rw (swung (range_of a.sensitivity) a.offset (omega arith), above a.offset (nearest (8192 * nat_abs a.offset) (range_of a.sensitivity)) c.ranges.offset c.if-offset-lt0.false)
     (omega arith)

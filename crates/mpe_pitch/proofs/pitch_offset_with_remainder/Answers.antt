@@ -37,7 +37,7 @@ pub returns-then-v-lt8192 : goal.returns-then-v-lt8192
 returns-then-v-lt8192 c =
     let a = c.args in
     let z = c.remainder_over_8191-r.result in
-    let e = (let z : c.remainder_over_8191-r.result ≡ over (range_of c.args.sensitivity * (8192 - c.args.value % 2 ^ 14)) = c.remainder_over_8191-r.ensures.0 ∙ (λ i. over (c.units-d.ensures.0 i * (8192 - and_mask c.args.value 14 i))) in z) in
+    let e : z ≡ over (range_of a.sensitivity * (8192 - a.value % 2 ^ 14)) = c.remainder_over_8191-r.ensures.0 ∙ (λ i. over (c.units-d.ensures.0 i * (8192 - and_mask a.value 14 i))) in
     let p = let small : a.value % 2 ^ 14 < 8192 = omega (arith, and_mask a.value 14) in
     whole a.value a.sensitivity _ _
     (offset-back _ a.value a.sensitivity c.pitch_offset-offset.ensures.is)
@@ -48,7 +48,7 @@ pub returns : goal.returns
 returns c =
     let a = c.args in
     let z = c.remainder_over_8191-remainder.result in
-    let e = (let z : c.remainder_over_8191-remainder.result ≡ over (range_of c.args.sensitivity * (c.args.value % 2 ^ 14 - 8192)) = c.remainder_over_8191-remainder.ensures.0 ∙ (λ i. over (c.units-d.ensures.0 i * (and_mask c.args.value 14 i - 8192))) in z) in
+    let e : z ≡ over (range_of a.sensitivity * (a.value % 2 ^ 14 - 8192)) = c.remainder_over_8191-remainder.ensures.0 ∙ (λ i. over (c.units-d.ensures.0 i * (and_mask a.value 14 i - 8192))) in
     let p = let large : 8192 ≤ a.value % 2 ^ 14 = omega (arith, and_mask a.value 14) in
     whole a.value a.sensitivity _ _
     (offset-back _ a.value a.sensitivity c.pitch_offset-offset.ensures.is)

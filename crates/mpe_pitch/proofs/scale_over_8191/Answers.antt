@@ -10,14 +10,18 @@ small : (q r m k : ℕ) → q ≤ 157 → r ≤ 8192 → m ≤ 8192 → q * m + 
 small q r m k h l n =
     add-le-add (mul-le-mul {n₂ = 157} {m₂ = 8192} h n) (le_trans (div-le_self (r * m) k) (mul-le-mul {n₂ = 8192} {m₂ = 8192} l n))
 
+-- the product of a range and a distance from the center
+product : (d m : ℕ) → d ≤ 1282700 → m ≤ 8192 → d * m ≤ 1282700 * 8192
+product d m h n = mul-le-mul {n₂ = 1282700} {m₂ = 8192} h n
+
 pub returns-then-x-ge8191 : goal.returns-then-x-ge8191
 returns-then-x-ge8191 c =
     let a = c.args in
     let e = up a.d a.m (omega arith) in
-    (e, omega (arith, e, (let z : c.args.d * c.args.m ≤ 1282700 * 8192 = mul-le-mul {n₂ = 1282700} {m₂ = 8192} (omega arith) (omega arith) in z)))
+    (e, omega (arith, e, product a.d a.m (omega arith) (omega arith)))
 
 pub returns-else-x-ge8191 : goal.returns-else-x-ge8191
 returns-else-x-ge8191 c =
     let a = c.args in
     let e = down a.d a.m (omega arith) in
-    (e, omega (arith, e, (let z : c.args.d * c.args.m ≤ 1282700 * 8192 = mul-le-mul {n₂ = 1282700} {m₂ = 8192} (omega arith) (omega arith) in z)))
+    (e, omega (arith, e, product a.d a.m (omega arith) (omega arith)))

@@ -8,7 +8,7 @@ use Rattle.ump.specs.Outcome.{given}
 use Rattle.scale.specs.Scale.{zero_downscaled, rounded}
 use Rattle.scale.specs.declared.Scaled.TheVariants.{Value, OutOfRange}
 use Rattle.scale.proofs.Claims.{zero-extend-downscale-claims}
-use Rattle.scale.proofs.Range.{Ranged, narrows-holds, narrowing, one_shifted}
+use Rattle.scale.proofs.Range.{narrows-holds, narrowing, one_shifted}
 use Rattle.scale.proofs.zero_extend_downscale.Goals as goal
 
 pub returns-then-not-can_downscale : goal.returns-then-not-can_downscale
@@ -20,33 +20,33 @@ returns-then-not-can_downscale c =
 
 pub overflow_sub-scale_bits : goal.overflow_sub-scale_bits
 overflow_sub-scale_bits c =
-    let r = (let z : Ranged c.args.dst_bits c.args.src_bits (2 ^ c.args.src_bits) c.args.value = narrowing _ _ _ (sym c.can_downscale.ensures ∙ c.if-not-can_downscale.false) in z) in
+    let r = narrowing _ _ _ (sym c.can_downscale.ensures ∙ c.if-not-can_downscale.false) in
     omega arith
 
 pub overflow_sub-half : goal.overflow_sub-half
 overflow_sub-half c =
-    let r = (let z : Ranged c.args.dst_bits c.args.src_bits (2 ^ c.args.src_bits) c.args.value = narrowing _ _ _ (sym c.can_downscale.ensures ∙ c.if-not-can_downscale.false) in z) in
+    let r = narrowing _ _ _ (sym c.can_downscale.ensures ∙ c.if-not-can_downscale.false) in
     omega arith
 
 pub overflow_shl-half : goal.overflow_shl-half
 overflow_shl-half c =
-    let r = (let z : Ranged c.args.dst_bits c.args.src_bits (2 ^ c.args.src_bits) c.args.value = narrowing _ _ _ (sym c.can_downscale.ensures ∙ c.if-not-can_downscale.false) in z) in
+    let r = narrowing _ _ _ (sym c.can_downscale.ensures ∙ c.if-not-can_downscale.false) in
     omega arith
 
 pub overflow_add-shifted : goal.overflow_add-shifted
 overflow_add-shifted c =
-    let r = (let z : Ranged c.args.dst_bits c.args.src_bits (2 ^ c.args.src_bits) c.args.value = narrowing _ _ _ (sym c.can_downscale.ensures ∙ c.if-not-can_downscale.false) in z) in
+    let r = narrowing _ _ _ (sym c.can_downscale.ensures ∙ c.if-not-can_downscale.false) in
     let k = c.args.src_bits - c.args.dst_bits - 1 in
     omega (arith, one_shifted k 64 (omega arith), pow_mono {i = k} {j = 32} (omega arith))
 
 pub overflow_shr-shifted : goal.overflow_shr-shifted
 overflow_shr-shifted c =
-    let r = (let z : Ranged c.args.dst_bits c.args.src_bits (2 ^ c.args.src_bits) c.args.value = narrowing _ _ _ (sym c.can_downscale.ensures ∙ c.if-not-can_downscale.false) in z) in
+    let r = narrowing _ _ _ (sym c.can_downscale.ensures ∙ c.if-not-can_downscale.false) in
     omega arith
 
 pub max_value-max-requires : goal.max_value-max-requires
 max_value-max-requires c =
-    let r = (let z : Ranged c.args.dst_bits c.args.src_bits (2 ^ c.args.src_bits) c.args.value = narrowing _ _ _ (sym c.can_downscale.ensures ∙ c.if-not-can_downscale.false) in z) in
+    let r = narrowing _ _ _ (sym c.can_downscale.ensures ∙ c.if-not-can_downscale.false) in
     omega arith
 
 pub returns-then-shifted-max : goal.returns-then-shifted-max
@@ -54,7 +54,7 @@ unfolding zero_downscaled rounded
 returns-then-shifted-max c =
     let a = c.args in
     let k = a.src_bits - a.dst_bits in
-    let r = (let z : Ranged c.args.dst_bits c.args.src_bits (2 ^ c.args.src_bits) c.args.value = narrowing _ _ _ (sym c.can_downscale.ensures ∙ c.if-not-can_downscale.false) in z) in
+    let r = narrowing _ _ _ (sym c.can_downscale.ensures ∙ c.if-not-can_downscale.false) in
     let half = one_shifted (k - 1) 64 (omega arith) in
     let highest = c.max_value-max.ensures in
     let h : (a.value + 2 ^ (k - 1)) / 2 ^ k ≤ 2 ^ a.dst_bits - 1 =
@@ -68,7 +68,7 @@ unfolding zero_downscaled rounded
 returns c =
     let a = c.args in
     let k = a.src_bits - a.dst_bits in
-    let r = (let z : Ranged c.args.dst_bits c.args.src_bits (2 ^ c.args.src_bits) c.args.value = narrowing _ _ _ (sym c.can_downscale.ensures ∙ c.if-not-can_downscale.false) in z) in
+    let r = narrowing _ _ _ (sym c.can_downscale.ensures ∙ c.if-not-can_downscale.false) in
     let half = one_shifted (k - 1) 64 (omega arith) in
     let highest = c.max_value-max.ensures in
     let h : 2 ^ a.dst_bits - 1 < (a.value + 2 ^ (k - 1)) / 2 ^ k =
