@@ -2,8 +2,7 @@
 #![tactic(auto)]
 
 ghost use Rattle.std.specs.Prelude.{◌≡◌, map, ◌<◌};
-ghost use Rattle.parameters.specs.State.{parameter_reply_read};
-ghost use Rattle.mpe_event.specs.Update.{mpe_reply_read};
+ghost use Rattle.ump.specs.Outcome.{answered};
 ghost use Rattle.receiving_end.specs.End.{event_in, mpe_in, stepped, message_at, message_step, answer_step, step_reply, step_end};
 ghost use Rattle.receiving_end.specs.Lists.{byte_by_value, byte_lent, replied, answer, next, after, after_bytes};
 
@@ -14,7 +13,7 @@ use receiving_end::end::{End, Reply, Stepped};
 use ump::channel_voice1::channel;
 
 fn event_in(reply: parameters::Reply) -> MaybeEvent
-    ensures { result ≡ event_in (parameter_reply_read reply) }
+    ensures { result ≡ event_in (answered reply) }
 {
     match reply {
         parameters::Reply::Received(e) => e,
@@ -23,7 +22,7 @@ fn event_in(reply: parameters::Reply) -> MaybeEvent
 }
 
 fn mpe_in(reply: MpeReply) -> MpeEvent
-    ensures { result ≡ mpe_in (mpe_reply_read reply) }
+    ensures { result ≡ mpe_in (answered reply) }
 {
     match reply {
         MpeReply::Received(e) => e,

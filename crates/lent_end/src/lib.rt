@@ -2,8 +2,8 @@
 #![tactic(auto)]
 
 ghost use Rattle.std.specs.Prelude.{◌≡◌, ◌<◌, ◌^◌};
-ghost use Rattle.parameters.specs.State.{parameter_reply_read};
-ghost use Rattle.mpe_event.specs.Update.{in_mode4, mpe_reply_read};
+ghost use Rattle.ump.specs.Outcome.{answered};
+ghost use Rattle.mpe_event.specs.Update.{in_mode4};
 ghost use Rattle.receiving_end.specs.End.{event_in, mpe_in, step_reply, step_end};
 ghost use Rattle.receiving_end.specs.Lists.{answer, next, byte_lent, replied};
 ghost use Rattle.ump.specs.Word.{bend_of};
@@ -193,7 +193,7 @@ fn bend_in(word: u32) -> u16
 
 // The event in what the parameters answer.
 fn event_in(reply: parameters::Reply) -> MaybeEvent
-    ensures { result ≡ event_in (parameter_reply_read reply) }
+    ensures { result ≡ event_in (answered reply) }
 {
     match reply {
         parameters::Reply::Received(e) => e,
@@ -203,7 +203,7 @@ fn event_in(reply: parameters::Reply) -> MaybeEvent
 
 // The reply to a message by what the receiver answers.
 fn reply_to(word: u32, reply: MpeReply) -> Reply
-    ensures { result ≡ Message word (mpe_in (mpe_reply_read reply)) }
+    ensures { result ≡ Message word (mpe_in (answered reply)) }
 {
     match reply {
         MpeReply::Received(e) => Reply::Message(word, e),

@@ -150,9 +150,9 @@ abbrev pub word_update : Zones → MaybeEvent → ℕ → ZonesUpdate
 word_update z e w = message_update z e (opcode_of w) (channel_of w) (first_of w)
 
 -- what a word gets, by document 01's numbers: one without the form of a message is out of range, and leaves the zones as they are
-abbrev pub mpe_reply_read : MpeReply → Outcome MpeEvent
-mpe_reply_read (reply.Received e) = given e
-mpe_reply_read reply.OutOfRange = out_of_range
+abbrev pub answered : MpeReply → Outcome MpeEvent
+answered (reply.Received e) = given e
+answered reply.OutOfRange = out_of_range
 
 abbrev pub zones_reply : Zones → ℕ → MaybeEvent → Outcome MpeEvent
 zones_reply z w e = when word_form w then given (word_update z e w).event else out_of_range

@@ -2,9 +2,10 @@
 #![tactic(auto)]
 
 ghost use Rattle.std.specs.Prelude.{◌≡◌};
+ghost use Rattle.ump.specs.Outcome.{answered};
 ghost use Rattle.mpe_layout.specs.Layout.{lowest_found};
 ghost use Rattle.mpe_zones.specs.Zones.{mono_of};
-ghost use Rattle.mpe_event.specs.Update.{decoded_rpn, decoded_parameter, decoded_event, decoded, zones_update, announced, configured_by, configured, announced_on, sensitivity_update, in_mode4, mode_event, other_on_member, is_lowest, is_lowest_in, on_member, plain_event, mode_set, updated_as, message_update, mpe_reply_read, zones_reply, zones_after, reset_in};
+ghost use Rattle.mpe_event.specs.Update.{decoded_rpn, decoded_parameter, decoded_event, decoded, zones_update, announced, configured_by, configured, announced_on, sensitivity_update, in_mode4, mode_event, other_on_member, is_lowest, is_lowest_in, on_member, plain_event, mode_set, updated_as, message_update, zones_reply, zones_after, reset_in};
 ghost use Rattle.mpe_event.specs.Claims.{ReceiverCases};
 
 use mpe_layout::{LowestMember, MpeRole, MpeZone};
@@ -382,7 +383,7 @@ fn update(zones: Zones, parameter: MaybeEvent, opcode: u8, channel: u8, first: u
 
 // One message, with the event that its channel's parameters gave for it. A word that is no message is out of range.
 pub fn receive(zones: Zones, word: u32, parameter: MaybeEvent) -> ZonesReceived
-    ensures reply { mpe_reply_read result.reply ≡ zones_reply zones word parameter }
+    ensures reply { answered result.reply ≡ zones_reply zones word parameter }
     ensures zones { result.zones ≡ zones_after zones word parameter }
     ensures cases { ReceiverCases }
 {

@@ -122,21 +122,21 @@ abbrev pub role_given : MpeLayout → ℕ → Outcome MpeRole
 role_given l channel = of_legal l (given (role_of l (packet_value channel)))
 
 -- what each answer gives or declines
-abbrev pub layout_made : MadeLayout → Outcome MpeLayout
-layout_made (made_layout.Made l) = given l
-layout_made made_layout.OutOfRange = out_of_range
+abbrev pub answered : MadeLayout → Outcome MpeLayout
+answered (made_layout.Made l) = given l
+answered made_layout.OutOfRange = out_of_range
 
-abbrev pub members_found : Members → Outcome ℕ
-members_found (found_members.Count n) = given n
-members_found found_members.OutOfRange = out_of_range
+abbrev pub answered : Members → Outcome ℕ
+answered (found_members.Count n) = given n
+answered found_members.OutOfRange = out_of_range
 
-abbrev pub role_found : FoundRole → Outcome MpeRole
-role_found (found_role.Role r) = given r
-role_found found_role.OutOfRange = out_of_range
+abbrev pub answered : FoundRole → Outcome MpeRole
+answered (found_role.Role r) = given r
+answered found_role.OutOfRange = out_of_range
 
-abbrev pub activity_found : Activity → Outcome Bool
-activity_found (activity.Active b) = given b
-activity_found activity.OutOfRange = out_of_range
+abbrev pub answered : Activity → Outcome Bool
+answered (activity.Active b) = given b
+answered activity.OutOfRange = out_of_range
 
 abbrev pub lowest_found : LowestMember → Outcome ℕ
 lowest_found (lowest_member.Channel c) = given c

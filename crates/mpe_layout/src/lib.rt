@@ -2,8 +2,8 @@
 #![tactic(auto)]
 
 ghost use Rattle.std.specs.Prelude.{◌≡◌, true, ◌<◌};
-ghost use Rattle.ump.specs.Outcome.{given};
-ghost use Rattle.mpe_layout.specs.Layout.{legal_counts, no_zones, default_layout, legal, of_legal, members_of, other_zone, manager_of, active, place_of, role_at, role_of, lowest_or_none, left_beside, layout_for, with_mcm, new_layout, mcm_layout, role_given, layout_made, members_found, role_found, activity_found, lowest_found};
+ghost use Rattle.ump.specs.Outcome.{given, answered};
+ghost use Rattle.mpe_layout.specs.Layout.{legal_counts, no_zones, default_layout, legal, of_legal, members_of, other_zone, manager_of, active, place_of, role_at, role_of, lowest_or_none, left_beside, layout_for, with_mcm, new_layout, mcm_layout, role_given, lowest_found};
 ghost use Rattle.mpe_layout.specs.Sheet.{place_named, HoldsPlaces};
 ghost use Rattle.mpe_layout.specs.declared.ZonePlace.TheVariants.{Outside};
 
@@ -286,7 +286,7 @@ impl MpeLayout {
 
     // A layout with these member counts.
     pub fn new(lower: u8, upper: u8) -> MadeLayout
-        ensures { layout_made result ≡ new_layout lower upper }
+        ensures { answered result ≡ new_layout lower upper }
     {
         if is_legal(lower, upper) {
             return MadeLayout::Made(MpeLayout { lower, upper });
@@ -312,7 +312,7 @@ impl MpeLayout {
 
     // The member count of a zone.
     pub fn members(self, zone: MpeZone) -> Members
-        ensures { members_found result ≡ of_legal self (given (members_of self zone)) }
+        ensures { answered result ≡ of_legal self (given (members_of self zone)) }
     {
         if self.is_layout() {
             return Members::Count(self.count(zone));
@@ -335,7 +335,7 @@ impl MpeLayout {
 
     // The layout after an MPE Configuration Message.
     pub fn with_mcm(self, zone: MpeZone, members: u8) -> MadeLayout
-        ensures { layout_made result ≡ mcm_layout self zone members }
+        ensures { answered result ≡ mcm_layout self zone members }
     {
         if self.is_layout() {
             return MadeLayout::Made(self.announced(zone, members));
@@ -356,7 +356,7 @@ impl MpeLayout {
 
     // The role of a channel, as the sheet lists it.
     pub fn role(self, channel: u8) -> FoundRole
-        ensures { role_found result ≡ role_given self channel }
+        ensures { answered result ≡ role_given self channel }
     {
         if self.is_layout() {
             return FoundRole::Role(self.role_listed(channel % 16));
@@ -380,7 +380,7 @@ impl MpeLayout {
     // The role of a channel by comparisons, for the byte calls: each message asks for one, and `role` in this place would take the lent call to 1.7 to
     // 2.7 times its instructions (docs/BENCHMARKS.md).
     pub fn role_compared(self, channel: u8) -> FoundRole
-        ensures { role_found result ≡ role_given self channel }
+        ensures { answered result ≡ role_given self channel }
     {
         if self.is_layout() {
             return FoundRole::Role(self.role_in(channel % 16));
@@ -390,7 +390,7 @@ impl MpeLayout {
 
     // At least one zone is active.
     pub fn is_active(self) -> Activity
-        ensures { activity_found result ≡ of_legal self (given (active self.lower self.upper)) }
+        ensures { answered result ≡ of_legal self (given (active self.lower self.upper)) }
     {
         if self.is_layout() {
             return Activity::Active(has_members(self.lower, self.upper));

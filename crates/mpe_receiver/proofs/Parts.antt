@@ -6,7 +6,7 @@ use mathlib.Core.Bool.{Bool, true, false, true≢false}
 use mathlib.Core.List.{List}
 use native.Mathlib.Nat.{zero-div}
 use lib.Dec.{eqb}
-use Rattle.ump.specs.Outcome.{Outcome, given, declined, out_of_range}
+use Rattle.ump.specs.Outcome.{Outcome, given, declined, out_of_range, answered}
 use Rattle.ump.specs.Word.{word_form}
 use Rattle.ump.proofs.Cases.{by-test, of-both, chosen, passed}
 use Rattle.parameters.specs.declared.MaybeEvent.{MaybeEvent}
@@ -15,14 +15,14 @@ use Rattle.mpe_layout.specs.declared.MpeLayout.{MpeLayout}
 use Rattle.mpe_layout.specs.Layout.{legal}
 use Rattle.mpe_reset.specs.declared.ResetMask.{ResetMask}
 use Rattle.mpe_reset.specs.declared.ResetMask.TheVariants.{Mask, OutOfRange}
-use Rattle.mpe_reset.specs.Reset.{named, mask_found}
+use Rattle.mpe_reset.specs.Reset.{named}
 use Rattle.mpe_event.specs.declared.MpeEvent.{MpeEvent}
 use Rattle.mpe_event.specs.declared.MpeReply.{MpeReply}
 use Rattle.mpe_event.specs.declared.MpeReply.TheVariants as reply
 use Rattle.mpe_event.specs.declared.ZonesUpdate.{ZonesUpdate}
 use Rattle.mpe_zones.specs.declared.Zones.{Zones}
 use Rattle.mpe_zones.specs.Zones.{role_held, zones_set, zones_set_reply}
-use Rattle.mpe_event.specs.Update.{message_update, plain_event, mpe_reply_read, zones_reply, zones_after, reset_in}
+use Rattle.mpe_event.specs.Update.{message_update, plain_event, zones_reply, zones_after, reset_in}
 use Rattle.mpe_event.proofs.Kept.{NoMode, none-reset, zones-kept, quiet-event}
 use Rattle.mpe_receiver.specs.declared.MpeReceiver.{MpeReceiver}
 use Rattle.mpe_receiver.specs.State.{zones_of, with_zones}
@@ -64,8 +64,8 @@ value_or d (given a) = a
 value_or d (declined n v) = d
 
 -- a word that the zones received has the form of a message, and one that they declined has not
-module _ (self : MpeReceiver) (e : MaybeEvent) (w : ℕ) {z : Zones} (x : MpeReply) (pz : z ≡ zones_of self) (px : mpe_reply_read x ≡ zones_reply z w e) where
-  answer-is : mpe_reply_read x ≡ zones_reply (zones_of self) w e
+module _ (self : MpeReceiver) (e : MaybeEvent) (w : ℕ) {z : Zones} (x : MpeReply) (pz : z ≡ zones_of self) (px : answered x ≡ zones_reply z w e) where
+  answer-is : answered x ≡ zones_reply (zones_of self) w e
   answer-is = px ∙ ap (λ y. zones_reply y w e) pz
 
   pub received-settled : {event : MpeEvent} {y : Zones} {r : MpeReceiver}
@@ -75,7 +75,7 @@ module _ (self : MpeReceiver) (e : MaybeEvent) (w : ℕ) {z : Zones} (x : MpeRep
       → (given event ≡ receiver_reply self w e) × (r ≡ receiver_after self w e)
   unfolding received_by_fields is_given value_or
   received-settled {event} {y} is py p =
-      let got = ap mpe_reply_read (sym is) ∙ answer-is in
+      let got = ap answered (sym is) ∙ answer-is in
       by-test (word_form w)
       (λ t.
       let same = ap (value_or event) (got ∙ chosen _ out_of_range t) in
@@ -86,14 +86,14 @@ module _ (self : MpeReceiver) (e : MaybeEvent) (w : ℕ) {z : Zones} (x : MpeRep
   pub declined_left : x ≡ reply.OutOfRange → (out_of_range ≡ receiver_reply self w e) × (self ≡ receiver_after self w e)
   unfolding received_by_fields is_given
   declined_left is =
-      let got = ap mpe_reply_read (sym is) ∙ answer-is in
+      let got = ap answered (sym is) ∙ answer-is in
       by-test (word_form w)
       (λ t. absurd (true≢false (sym (ap is_given (got ∙ chosen _ out_of_range t)))))
       (λ f. (got, sym (passed _ self f)))
 
 -- a layout that is set, likewise
-module _ (self : MpeReceiver) (l : MpeLayout) {z : Zones} (x : ResetMask) (pz : z ≡ zones_of self) (px : mask_found x ≡ zones_set_reply z l) where
-  mask_is : mask_found x ≡ set_reply self l
+module _ (self : MpeReceiver) (l : MpeLayout) {z : Zones} (x : ResetMask) (pz : z ≡ zones_of self) (px : answered x ≡ zones_set_reply z l) where
+  mask_is : answered x ≡ set_reply self l
   mask_is = px ∙ ap (λ y. zones_set_reply y l) pz
 
   pub set-updated : {mask : ℕ} {y : Zones} {v r : MpeReceiver}
@@ -104,7 +104,7 @@ module _ (self : MpeReceiver) (l : MpeLayout) {z : Zones} (x : ResetMask) (pz : 
       → (given mask ≡ set_reply self l) × (r ≡ set_state self l)
   unfolding is_given value_or
   set-updated {mask} {y} is py pv p =
-      let got = ap mask_found (sym is) ∙ mask_is in
+      let got = ap answered (sym is) ∙ mask_is in
       by-test (legal l)
       (λ t.
       let same = ap (value_or mask) (got ∙ chosen _ out_of_range t) in
@@ -115,7 +115,7 @@ module _ (self : MpeReceiver) (l : MpeLayout) {z : Zones} (x : ResetMask) (pz : 
   pub unset-left : x ≡ OutOfRange → (out_of_range ≡ set_reply self l) × (self ≡ set_state self l)
   unfolding is_given
   unset-left is =
-      let got = ap mask_found (sym is) ∙ mask_is in
+      let got = ap answered (sym is) ∙ mask_is in
       by-test (legal l)
       (λ t. absurd (true≢false (sym (ap is_given (got ∙ chosen _ out_of_range t)))))
       (λ f. (got, sym (passed _ self f)))

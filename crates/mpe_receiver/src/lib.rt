@@ -2,10 +2,9 @@
 #![tactic(auto)]
 
 ghost use Rattle.std.specs.Prelude.{◌≡◌, ◌<◌, ℤ};
-ghost use Rattle.ump.specs.Outcome.{given};
-ghost use Rattle.mpe_reset.specs.Reset.{mask_found};
+ghost use Rattle.ump.specs.Outcome.{given, answered};
 ghost use Rattle.mpe_pitch.specs.Claims.{Within};
-ghost use Rattle.mpe_event.specs.Update.{mpe_reply_read, reset_in};
+ghost use Rattle.mpe_event.specs.Update.{reset_in};
 ghost use Rattle.mpe_receiver.specs.State.{new_receiver, zones_of, with_zones};
 ghost use Rattle.mpe_receiver.specs.Receive.{stored, rest_upto, receiver_reply, receiver_after, set_reply, set_state, settled};
 ghost use Rattle.mpe_receiver.specs.Read.{mode_of, sensitivity_of, bend_at, pressure_at, brightness_at, offset_of, offset_read, manager_pair, member_pair, pair_by_role, pair_of, pair_read};
@@ -193,7 +192,7 @@ impl MpeReceiver {
 
     // One message, with the event that its channel's parameters gave for it. A word that is no message is out of range.
     pub fn receive(self, word: u32, parameter: MaybeEvent) -> Received
-        ensures reply { mpe_reply_read result.reply ≡ receiver_reply self word parameter }
+        ensures reply { answered result.reply ≡ receiver_reply self word parameter }
         ensures state { result.receiver ≡ receiver_after self word parameter }
     {
         let update = receive(self.zones(), word, parameter);
@@ -216,7 +215,7 @@ impl MpeReceiver {
 
     // A layout that the application sets. An illegal one is out of range.
     pub fn set_layout(self, layout: MpeLayout) -> LayoutSet
-        ensures reply { mask_found result.reply ≡ set_reply self layout }
+        ensures reply { answered result.reply ≡ set_reply self layout }
         ensures state { result.receiver ≡ set_state self layout }
         ensures rests { MaskRests × ByZones }
     {

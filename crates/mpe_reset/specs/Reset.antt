@@ -86,9 +86,9 @@ NamesHit mask channel answer =
     mask ≡ mask_to (hit_by change before after) 16 → answer ≡ hit_by change before after (packet_value channel)
 
 -- what an answer gives or declines
-abbrev pub mask_found : ResetMask → Outcome ℕ
-mask_found (Mask m) = given m
-mask_found OutOfRange = out_of_range
+abbrev pub answered : ResetMask → Outcome ℕ
+answered (Mask m) = given m
+answered OutOfRange = out_of_range
 
 -- the channels of a mask, or none
 abbrev pub mask_or_zero : Outcome ℕ → ℕ

@@ -2,10 +2,10 @@
 #![tactic(auto)]
 
 ghost use Rattle.std.specs.Prelude.{◌≡◌, true, ◌<◌};
-ghost use Rattle.ump.specs.Outcome.{given};
+ghost use Rattle.ump.specs.Outcome.{given, answered};
 ghost use Rattle.ump.specs.Field.{mask_to};
 ghost use Rattle.mpe_layout.specs.Layout.{legal, of_legal};
-ghost use Rattle.mpe_reset.specs.Reset.{in_lower, in_upper, announcement_mask, layout_mask, hit_by, named, NamesHit, mask_found, mask_or_zero};
+ghost use Rattle.mpe_reset.specs.Reset.{in_lower, in_upper, announcement_mask, layout_mask, hit_by, named, NamesHit, mask_or_zero};
 
 use mpe_layout::{MpeLayout, MpeZone};
 
@@ -64,7 +64,7 @@ fn mask_of(change: Change, before: MpeLayout, after: MpeLayout) -> u16
 }
 
 fn reset(change: Change, before: MpeLayout, after: MpeLayout) -> ResetMask
-    ensures { mask_found result ≡ of_legal before (of_legal after (given (mask_to (hit_by change before after) 16))) }
+    ensures { answered result ≡ of_legal before (of_legal after (given (mask_to (hit_by change before after) 16))) }
 {
     if before.is_layout() {
         if after.is_layout() {
@@ -77,14 +77,14 @@ fn reset(change: Change, before: MpeLayout, after: MpeLayout) -> ResetMask
 
 // A zone announcement resets every channel whose role changes or that is in the named zone before or after.
 pub fn announcement_reset(before: MpeLayout, after: MpeLayout, zone: MpeZone) -> ResetMask
-    ensures { mask_found result ≡ of_legal before (of_legal after (given (announcement_mask before after zone))) }
+    ensures { answered result ≡ of_legal before (of_legal after (given (announcement_mask before after zone))) }
 {
     reset(Change::Announced(zone), before, after)
 }
 
 // A layout that is set resets every channel with a role before or after.
 pub fn layout_reset(before: MpeLayout, after: MpeLayout) -> ResetMask
-    ensures { mask_found result ≡ of_legal before (of_legal after (given (layout_mask before after))) }
+    ensures { answered result ≡ of_legal before (of_legal after (given (layout_mask before after))) }
 {
     reset(Change::Set, before, after)
 }
@@ -99,7 +99,7 @@ pub fn names(mask: u16, channel: u8) -> bool
 
 // The channels of a mask, or none.
 pub fn mask_or_zero(found: ResetMask) -> u16
-    ensures { result ≡ mask_or_zero (mask_found found) }
+    ensures { result ≡ mask_or_zero (answered found) }
 {
     match found {
         ResetMask::Mask(m) => m,

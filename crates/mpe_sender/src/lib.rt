@@ -2,9 +2,9 @@
 #![tactic(auto)]
 
 ghost use Rattle.std.specs.Prelude.{◌≡◌, [], ◌∷◌};
-ghost use Rattle.ump.specs.Outcome.{all_of, followed_by};
+ghost use Rattle.ump.specs.Outcome.{all_of, followed_by, answered};
 ghost use Rattle.ump.specs.Packet.{packet_value};
-ghost use Rattle.ump.specs.Word.{two_data_word, one_data_word, bend_word, message_made, two_made, three_made, four_made};
+ghost use Rattle.ump.specs.Word.{two_data_word, one_data_word, bend_word};
 ghost use Rattle.mpe_sender.specs.Writers.{rpn_messages, mcm_messages, sensitivity_allowed, sensitivity_messages, zone_for, zone_found, mode_on, mode_message, note_messages};
 ghost use Rattle.mpe_sender.specs.Claims.{AllowedWithin, SentEntered};
 
@@ -21,7 +21,7 @@ use ump::packet::{Channel, Group};
 
 // Two messages and then one more.
 fn two_and_one(first: TwoWords, second: Message) -> ThreeWords
-    ensures { three_made result ≡ followed_by (two_made first) (all_of (message_made second ∷ [])) }
+    ensures { answered result ≡ followed_by (answered first) (all_of (answered second ∷ [])) }
 {
     let TwoWords::Words(a, b) = first else {
         return ThreeWords::OutOfRange;
@@ -34,7 +34,7 @@ fn two_and_one(first: TwoWords, second: Message) -> ThreeWords
 
 // RPN `rpn` with Data Entry MSB and no LSB: controllers 101, 100 and 6.
 fn rpn_messages(channel: u8, rpn: Rpn, value: u8) -> ThreeWords
-    ensures { three_made result ≡ rpn_messages channel rpn value }
+    ensures { answered result ≡ rpn_messages channel rpn value }
 {
     two_and_one(
         select_messages(channel, Parameter::Registered(rpn)),
@@ -44,7 +44,7 @@ fn rpn_messages(channel: u8, rpn: Rpn, value: u8) -> ThreeWords
 
 // The MPE Configuration Message of a zone: RPN 0 6 on its manager. Members above 15 are out of range.
 pub fn mcm_messages(zone: MpeZone, members: u8) -> ThreeWords
-    ensures { three_made result ≡ mcm_messages zone members }
+    ensures { answered result ≡ mcm_messages zone members }
 {
     if 15 < members {
         return ThreeWords::OutOfRange;
@@ -68,8 +68,8 @@ pub fn sensitivity_allowed(sensitivity: MpeSensitivity) -> bool
 
 // The Pitch Bend Sensitivity of a channel: RPN 0, its semitones and then its cents. Semitones above 96 or cents above 99 are out of range.
 pub fn sensitivity_messages(channel: u8, semitones: u8, cents: u8) -> FourWords
-    ensures words { four_made result ≡ sensitivity_messages channel (record { semitones = semitones; cents = cents }) }
-    ensures entered { SentEntered (four_made result) channel semitones cents }
+    ensures words { answered result ≡ sensitivity_messages channel (record { semitones = semitones; cents = cents }) }
+    ensures entered { SentEntered (answered result) channel semitones cents }
 {
     if !sensitivity_allowed(MpeSensitivity { semitones, cents }) {
         return FourWords::OutOfRange;
@@ -104,7 +104,7 @@ pub fn active_zone(layout: MpeLayout, zone: MpeZone) -> ActiveZone
 }
 
 fn mode_on(lowest: u8, members: u8, mono: bool) -> Message
-    ensures { message_made result ≡ mode_on lowest members mono }
+    ensures { answered result ≡ mode_on lowest members mono }
 {
     if mono {
         return control_change(lowest, 126, members);
@@ -114,7 +114,7 @@ fn mode_on(lowest: u8, members: u8, mono: bool) -> Message
 
 // The mode message of a zone on its lowest member: Mono Mode On with the member count, or Poly Mode On with 0. An inactive zone is out of range.
 pub fn mode_message(layout: MpeLayout, zone: MpeZone, mono: bool) -> Message
-    ensures { message_made result ≡ mode_message layout zone mono }
+    ensures { answered result ≡ mode_message layout zone mono }
 {
     let found = active_zone(layout, zone);
     let ActiveZone::Zone { lowest, members } = found else {
@@ -125,21 +125,21 @@ pub fn mode_message(layout: MpeLayout, zone: MpeZone, mono: bool) -> Message
 
 // A Pitch Bend with Group 0.
 fn pitch_bend_message(channel: u8, value: u16) -> Message
-    ensures { message_made result ≡ bend_word 0 (packet_value channel) value }
+    ensures { answered result ≡ bend_word 0 (packet_value channel) value }
 {
     Midi1PitchBend::try_new(Group::from_bits(0), Channel::from_bits(channel), value)
 }
 
 // A Channel Pressure with Group 0.
 fn pressure_message(channel: u8, pressure: u8) -> Message
-    ensures { message_made result ≡ one_data_word 0xD 0 (packet_value channel) pressure }
+    ensures { answered result ≡ one_data_word 0xD 0 (packet_value channel) pressure }
 {
     Midi1ChannelPressure::try_new(Group::from_bits(0), Channel::from_bits(channel), pressure)
 }
 
 // A Note On with Group 0.
 fn note_on_message(channel: u8, note: u8, velocity: u8) -> Message
-    ensures { message_made result ≡ two_data_word 0x9 0 (packet_value channel) note velocity }
+    ensures { answered result ≡ two_data_word 0x9 0 (packet_value channel) note velocity }
 {
     Midi1NoteOn::try_new(
         Group::from_bits(0),
@@ -158,7 +158,7 @@ pub fn note_messages(
     brightness: u8,
     pressure: u8,
 ) -> FourWords
-    ensures { four_made result ≡ note_messages channel note velocity pitch_bend brightness pressure }
+    ensures { answered result ≡ note_messages channel note velocity pitch_bend brightness pressure }
 {
     if velocity == 0 {
         return FourWords::OutOfRange;

@@ -2,9 +2,7 @@
 #![tactic(auto)]
 
 ghost use Rattle.std.specs.Prelude.{◌≡◌, ◌<◌, ◌*◌, ◌+◌, ◌^◌};
-ghost use Rattle.ump.specs.Outcome.{out_of_range};
-ghost use Rattle.mpe_layout.specs.Layout.{role_found};
-ghost use Rattle.mpe_reset.specs.Reset.{mask_found};
+ghost use Rattle.ump.specs.Outcome.{out_of_range, answered};
 ghost use Rattle.mpe_zones.specs.Zones.{with_mono, mono_of, slot_of, sensitivity_at, sensitivity_put, zone_sensitivity, sensitivity_applied, sensitivity_changed, activated, activated_if, zones_announced, announced_reply, role_in, role_held, with_zones_of, zones_set_reply, zones_set};
 ghost use Rattle.mpe_zones.specs.Claims.{Activates};
 
@@ -31,7 +29,7 @@ pub struct ZonesLayoutSet {
 }
 
 fn role_in(found: FoundRole) -> MpeRole
-    ensures { result ≡ role_in (role_found found) }
+    ensures { result ≡ role_in (answered found) }
 {
     match found {
         FoundRole::Role(r) => r,
@@ -194,7 +192,7 @@ impl Zones {
 
     // The zones as they are, and the answer out of range.
     fn declined(self) -> ZonesLayoutSet
-        ensures { (mask_found result.reply ≡ out_of_range) × (result.zones ≡ self) }
+        ensures { (answered result.reply ≡ out_of_range) × (result.zones ≡ self) }
     {
         ZonesLayoutSet {
             zones: self,
@@ -204,7 +202,7 @@ impl Zones {
 
     // A zone announcement. More than 15 members are out of range, and so is one where the layout held is illegal.
     pub fn announce(self, zone: MpeZone, members: u8) -> ZonesLayoutSet
-        ensures reply { mask_found result.reply ≡ announced_reply self zone members }
+        ensures reply { answered result.reply ≡ announced_reply self zone members }
         ensures zones { result.zones ≡ zones_announced self zone members }
         ensures activates { Activates }
     {
@@ -227,7 +225,7 @@ impl Zones {
 
     // A layout that the application sets. An illegal one is out of range.
     pub fn set_layout(self, layout: MpeLayout) -> ZonesLayoutSet
-        ensures reply { mask_found result.reply ≡ zones_set_reply self layout }
+        ensures reply { answered result.reply ≡ zones_set_reply self layout }
         ensures zones { result.zones ≡ zones_set self layout }
     {
         if layout.is_layout() {

@@ -2,8 +2,7 @@
 #![tactic(auto)]
 
 ghost use Rattle.std.specs.Prelude.{◌≡◌};
-ghost use Rattle.ump.specs.Word.{message_made, two_made, four_made};
-ghost use Rattle.ump.specs.Outcome.{followed_by};
+ghost use Rattle.ump.specs.Outcome.{followed_by, answered};
 ghost use Rattle.parameter_messages.specs.Writers.{number_messages, select_registered, select_messages, change_message, value_messages};
 
 use parameter_event::{Parameter, ParameterChange};
@@ -18,7 +17,7 @@ fn number_messages(
     msb: u8,
     lsb: u8,
 ) -> TwoWords
-    ensures { two_made result ≡ number_messages channel msb_controller lsb_controller msb lsb }
+    ensures { answered result ≡ number_messages channel msb_controller lsb_controller msb lsb }
 {
     two_words(
         control_change(channel, msb_controller, msb),
@@ -28,7 +27,7 @@ fn number_messages(
 
 // A registered parameter's number; halves of `Other` go as they are.
 fn select_registered(channel: u8, rpn: Rpn) -> TwoWords
-    ensures { two_made result ≡ select_registered channel rpn }
+    ensures { answered result ≡ select_registered channel rpn }
 {
     let n = rpn.as_given();
     number_messages(channel, 101, 100, n.msb, n.lsb)
@@ -36,7 +35,7 @@ fn select_registered(channel: u8, rpn: Rpn) -> TwoWords
 
 // The number of `parameter`: its MSB and then its LSB, with Group 0. A half above 127 is out of range.
 pub fn select_messages(channel: u8, parameter: Parameter) -> TwoWords
-    ensures { two_made result ≡ select_messages channel parameter }
+    ensures { answered result ≡ select_messages channel parameter }
 {
     match parameter {
         Parameter::Registered(rpn) => select_registered(channel, rpn),
@@ -46,7 +45,7 @@ pub fn select_messages(channel: u8, parameter: Parameter) -> TwoWords
 
 // One change as a Control Change with Group 0; steps have value 0. Data above 127 is out of range.
 pub fn change_message(channel: u8, change: ParameterChange) -> Message
-    ensures { message_made result ≡ change_message channel change }
+    ensures { answered result ≡ change_message channel change }
 {
     match change {
         ParameterChange::DataEntryMsb(msb) => control_change(channel, 6, msb),
@@ -58,7 +57,7 @@ pub fn change_message(channel: u8, change: ParameterChange) -> Message
 
 // Two messages and then two more.
 fn two_and_two(first: TwoWords, second: TwoWords) -> FourWords
-    ensures { four_made result ≡ followed_by (two_made first) (two_made second) }
+    ensures { answered result ≡ followed_by (answered first) (answered second) }
 {
     let TwoWords::Words(a, b) = first else {
         return FourWords::OutOfRange;
@@ -71,7 +70,7 @@ fn two_and_two(first: TwoWords, second: TwoWords) -> FourWords
 
 // A parameter's value: its number, then Data Entry MSB and LSB, with Group 0. A value above 3FFF is out of range.
 pub fn value_messages(channel: u8, parameter: Parameter, value: u16) -> FourWords
-    ensures { four_made result ≡ value_messages channel parameter value }
+    ensures { answered result ≡ value_messages channel parameter value }
 {
     if 0x3FFF < value {
         return FourWords::OutOfRange;

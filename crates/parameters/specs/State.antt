@@ -123,9 +123,9 @@ abbrev pub update_by_word : ParameterState → ℕ → ParameterUpdate
 update_by_word s w = update_by_fields s (opcode_of w) (first_of w) (second_of w)
 
 -- what `receive` answers, by document 01's numbers
-abbrev pub parameter_reply_read : Reply → Outcome MaybeEvent
-parameter_reply_read (reply.Received e) = given e
-parameter_reply_read reply.OutOfRange = out_of_range
+abbrev pub answered : Reply → Outcome MaybeEvent
+answered (reply.Received e) = given e
+answered reply.OutOfRange = out_of_range
 
 abbrev pub parameter_reply : ParameterState → ℕ → Outcome MaybeEvent
 parameter_reply s w = when word_form w then given (update_by_word s w).event else out_of_range

@@ -2,7 +2,8 @@
 #![tactic(auto)]
 
 ghost use Rattle.std.specs.Prelude.{◌≡◌, ◌<◌, ◌-◌};
-ghost use Rattle.parameters.specs.State.{new_state, number, with_rpn, with_nrpn, selects, selected_rpn, selected_nrpn, selection_of, nulled, rpn_switched, nrpn_switched, entered, number_stored, controlled, update_by_fields, parameter_reply_read, parameter_reply, parameter_after};
+ghost use Rattle.ump.specs.Outcome.{answered};
+ghost use Rattle.parameters.specs.State.{new_state, number, with_rpn, with_nrpn, selects, selected_rpn, selected_nrpn, selection_of, nulled, rpn_switched, nrpn_switched, entered, number_stored, controlled, update_by_fields, parameter_reply, parameter_after};
 
 use parameter_event::{Parameter, ParameterChange, ParameterEvent};
 use ump::channel_voice1::{first_data, is_message, opcode, second_data};
@@ -251,7 +252,7 @@ impl ParameterState {
 
     // One message of this receiver's channel: the next state and at most one event. A word that is no message is out of range.
     pub fn receive(self, word: u32) -> Received
-        ensures reply { parameter_reply_read result.reply ≡ parameter_reply self word }
+        ensures reply { answered result.reply ≡ parameter_reply self word }
         ensures state { result.state ≡ parameter_after self word }
     {
         if is_message(word) {

@@ -1,9 +1,8 @@
 // The end: its layout, its reception switches, and every reading. The byte call on it is `byte_call`.
 ghost use Rattle.std.specs.Prelude.{◌≡◌, ℤ, ◌<◌};
-ghost use Rattle.ump.specs.Outcome.{given};
+ghost use Rattle.ump.specs.Outcome.{given, answered};
 ghost use Rattle.ump.specs.Packet.{packet_value};
 ghost use Rattle.parameters.specs.State.{selection_of};
-ghost use Rattle.mpe_reset.specs.Reset.{mask_found};
 ghost use Rattle.mpe_pitch.specs.Claims.{Within};
 ghost use Rattle.mpe_receiver.specs.Receive.{set_reply};
 ghost use Rattle.mpe_receiver.specs.Read.{mode_of, sensitivity_of, bend_at, pressure_at, brightness_at, offset_of, offset_read, pair_of, pair_read};
@@ -88,8 +87,8 @@ impl End {
 
     // A layout that the application sets.
     pub fn set_layout(self, layout: MpeLayout) -> LayoutSet
-        ensures is { (mask_found result.reply ≡ set_reply self.receiver layout) × (result.end ≡ laid_out_end self layout) }
-        ensures call { (masked (mask_found result.reply) ≡ answer self (set_layout layout)) × (result.end ≡ next self (set_layout layout)) }
+        ensures is { (answered result.reply ≡ set_reply self.receiver layout) × (result.end ≡ laid_out_end self layout) }
+        ensures call { (masked (answered result.reply) ≡ answer self (set_layout layout)) × (result.end ≡ next self (set_layout layout)) }
     {
         let receiver = self.receiver;
         let set = receiver.set_layout(layout);

@@ -3,8 +3,8 @@
 
 ghost use Rattle.std.specs.Prelude.{◌≡◌, true, [], ◌∷◌, ℕ, ◌+◌, ◌*◌, ◌/◌, ◌<◌, ◌≤◌, ◌^◌, length, take};
 ghost use Rattle.std.proofs.lemmas.List.Edits.{sets};
-ghost use Rattle.ump.specs.Outcome.{given, all_of};
-ghost use Rattle.ump.specs.Word.{bend_word, one_data_word, control_change, message_made, two_made, three_made};
+ghost use Rattle.ump.specs.Outcome.{given, all_of, answered};
+ghost use Rattle.ump.specs.Word.{bend_word, one_data_word, control_change};
 ghost use Rattle.ump.specs.Packet.{packet_value};
 ghost use Rattle.mpe_layout.specs.Layout.{legal};
 ghost use Rattle.zone_sender.specs.Zone.{filled, written_read};
@@ -28,8 +28,8 @@ use zone_sender::{Written, zone_sensitivity_messages};
 // Puts one message at a place, where there is one, and gives the place after it.
 fn put_one(out: &mut [u32], at: usize, message: Message) -> usize
     requires { at + 1 ≤ length out.old }
-    ensures place { result ≡ at + length (words_in (all_of (message_made message ∷ []))) }
-    ensures buffer { out.new ≡ sets out.old at (words_in (all_of (message_made message ∷ []))) }
+    ensures place { result ≡ at + length (words_in (all_of (answered message ∷ []))) }
+    ensures buffer { out.new ≡ sets out.old at (words_in (all_of (answered message ∷ []))) }
 {
     let Message::Word(a) = message else {
         return at;
@@ -41,7 +41,7 @@ fn put_one(out: &mut [u32], at: usize, message: Message) -> usize
 // Puts two messages at a place.
 fn put_two(out: &mut [u32], at: usize, pair: TwoWords)
     requires { at + 2 ≤ length out.old }
-    ensures { out.new ≡ sets out.old at (words_in (two_made pair)) }
+    ensures { out.new ≡ sets out.old at (words_in (answered pair)) }
 {
     let TwoWords::Words(a, b) = pair else {
         return;
@@ -53,7 +53,7 @@ fn put_two(out: &mut [u32], at: usize, pair: TwoWords)
 // Puts three messages at a place.
 fn put_three(out: &mut [u32], at: usize, three: ThreeWords)
     requires { at + 3 ≤ length out.old }
-    ensures { out.new ≡ sets out.old at (words_in (three_made three)) }
+    ensures { out.new ≡ sets out.old at (words_in (answered three)) }
 {
     let ThreeWords::Words(a, b, c) = three else {
         return;
@@ -187,7 +187,7 @@ fn write_deselections(out: &mut [u32], at: usize)
 
 // Pitch Bend, controller 74 and Channel Pressure of a channel.
 fn channel_messages(channel: u8, bend: u16, brightness: u8, pressure: u8) -> ThreeWords
-    ensures { three_made result ≡ all_of (bend_word 0 (packet_value channel) bend ∷ control_change channel 74 brightness ∷ one_data_word 0xD 0 (packet_value channel) pressure ∷ []) }
+    ensures { answered result ≡ all_of (bend_word 0 (packet_value channel) bend ∷ control_change channel 74 brightness ∷ one_data_word 0xD 0 (packet_value channel) pressure ∷ []) }
 {
     three_words(
         Midi1PitchBend::try_new(Group::from_bits(0), Channel::from_bits(channel), bend),

@@ -10,11 +10,11 @@ use lib.Dec.{leb}
 use lib.Pow.{pow_pos, pow-add, pow-lt, shl-shr, ones_lt, le_ones, ones_split, high}
 use borrow.Author.Tests.{eq-eqb, ne_eqb, le-leb, lt-leb, leb-true, leb-false}
 use Rattle.ump.specs.Choice.{when◌then◌else◌}
-use Rattle.ump.specs.Outcome.{given, out_of_range}
+use Rattle.ump.specs.Outcome.{given, out_of_range, answered}
 use Rattle.ump.specs.Field.{field}
 use Rattle.ump.proofs.Cases.{by-test, both}
 use Rattle.scale.specs.declared.Scaled.{Scaled}
-use Rattle.scale.specs.Scale.{scaled_read, widens, narrows, repeated, widened, narrowed, zero_extended, rounded, upscaled, downscaled, zero_upscaled, zero_downscaled}
+use Rattle.scale.specs.Scale.{widens, narrows, repeated, widened, narrowed, zero_extended, rounded, upscaled, downscaled, zero_upscaled, zero_downscaled}
 use Rattle.scale.specs.Claims.{OfValue, Widened, OneWidened, UpscaleKeeps, UpscaleRises, DownscaleReturns, Narrowed, ZeroDownscaleReturns, ZeroExtended, NearestUp, HalfAbove, Rounded}
 use Rattle.scale.specs.Examples.{ScalesAsTabled, scale_table, scale_answer}
 use Rattle.scale.proofs.Range.{Ranged, widening, narrowing, narrows-holds}
@@ -218,18 +218,18 @@ rounded-is v s d x e =
 
 -- all that is promised of an answer, of each call
 pub upscale-claims :
-    (r : Scaled) (v s d : ℕ) → scaled_read r ≡ upscaled v s d →
-    (scaled_read r ≡ upscaled v s d)
+    (r : Scaled) (v s d : ℕ) → answered r ≡ upscaled v s d →
+    (answered r ≡ upscaled v s d)
     × (OfValue r (Widened s d v) × (OfValue r (OneWidened s d v) × (UpscaleKeeps s d × (UpscaleRises s d × ScalesAsTabled))))
 upscale-claims r v s d e = (
   e,
   (
     (λ x g.
-        let a = upscaled-told v s d x (sym e ∙ ap scaled_read g) in
+        let a = upscaled-told v s d x (sym e ∙ ap answered g) in
         subst (λ (y : ℕ). Widened s d v y) (sym a.1) (widened_is s d v a.0)),
     (
       (λ x g y w.
-          let a = upscaled-told v s d x (sym e ∙ ap scaled_read g) in
+          let a = upscaled-told v s d x (sym e ∙ ap answered g) in
           a.1 ∙ sym (widened-only s d v y a.0 w)),
       (keeps s d, (rises s d, table-holds)),
     ),
@@ -237,18 +237,18 @@ upscale-claims r v s d e = (
 )
 
 pub downscale-claims :
-    (r : Scaled) (v s d : ℕ) → scaled_read r ≡ downscaled v s d →
-    (scaled_read r ≡ downscaled v s d) × (OfValue r (Narrowed s d v) × DownscaleReturns v s d r)
+    (r : Scaled) (v s d : ℕ) → answered r ≡ downscaled v s d →
+    (answered r ≡ downscaled v s d) × (OfValue r (Narrowed s d v) × DownscaleReturns v s d r)
 downscale-claims r v s d e =
-    (e, ((λ x g. narrowed-is v s d x (sym e ∙ ap scaled_read g)), (λ w g. e ∙ returned w d s v g)))
+    (e, ((λ x g. narrowed-is v s d x (sym e ∙ ap answered g)), (λ w g. e ∙ returned w d s v g)))
 
 pub zero-extend-upscale-claims :
-    (r : Scaled) (v s d : ℕ) → scaled_read r ≡ zero_upscaled v s d →
-    (scaled_read r ≡ zero_upscaled v s d) × OfValue r (ZeroExtended s d v)
-zero-extend-upscale-claims r v s d e = (e, (λ x g. zero-extended-is v s d x (sym e ∙ ap scaled_read g)))
+    (r : Scaled) (v s d : ℕ) → answered r ≡ zero_upscaled v s d →
+    (answered r ≡ zero_upscaled v s d) × OfValue r (ZeroExtended s d v)
+zero-extend-upscale-claims r v s d e = (e, (λ x g. zero-extended-is v s d x (sym e ∙ ap answered g)))
 
 pub zero-extend-downscale-claims :
-    (r : Scaled) (v s d : ℕ) → scaled_read r ≡ zero_downscaled v s d →
-    (scaled_read r ≡ zero_downscaled v s d) × (OfValue r (Rounded s d v) × ZeroDownscaleReturns v s d r)
+    (r : Scaled) (v s d : ℕ) → answered r ≡ zero_downscaled v s d →
+    (answered r ≡ zero_downscaled v s d) × (OfValue r (Rounded s d v) × ZeroDownscaleReturns v s d r)
 zero-extend-downscale-claims r v s d e =
-    (e, ((λ x g. rounded-is v s d x (sym e ∙ ap scaled_read g)), (λ w g. e ∙ zero-returned w d s v g)))
+    (e, ((λ x g. rounded-is v s d x (sym e ∙ ap answered g)), (λ w g. e ∙ zero-returned w d s v g)))

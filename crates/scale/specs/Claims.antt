@@ -1,10 +1,10 @@
 -- What holds of scaled values, over all widths (M2-115 3.2, 3.3, 4.2 to 4.4).
 use Rattle.std.specs.Prelude.{◌≡◌, ◌⊎◌, ℕ, ◌+◌, ◌-◌, ◌*◌, ◌/◌, ◌%◌, ◌^◌, ◌<◌, ◌≤◌}
-use Rattle.ump.specs.Outcome.{given}
+use Rattle.ump.specs.Outcome.{given, answered}
 use Rattle.ump.specs.Field.{field}
 use Rattle.scale.specs.declared.Scaled.{Scaled}
 use Rattle.scale.specs.declared.Scaled.TheVariants.{Value}
-use Rattle.scale.specs.Scale.{scaled_read, upscaled, zero_upscaled}
+use Rattle.scale.specs.Scale.{upscaled, zero_upscaled}
 
 -- a fact of the value that a call gives
 abbrev pub OfValue : Scaled → (ℕ → Type 0) → Type 0
@@ -41,11 +41,11 @@ UpscaleRises s d = (v w x y : ℕ) → upscaled v s d ≡ given x → upscaled w
 
 -- 3.2: a value that was widened from d bits to s is returned by narrowing it from s to d
 abbrev pub DownscaleReturns : ℕ → ℕ → ℕ → Scaled → Type 0
-DownscaleReturns value s d r = (v : ℕ) → upscaled v d s ≡ given value → scaled_read r ≡ given v
+DownscaleReturns value s d r = (v : ℕ) → upscaled v d s ≡ given value → answered r ≡ given v
 
 -- 4.2: the same of Zero-Extension
 abbrev pub ZeroDownscaleReturns : ℕ → ℕ → ℕ → Scaled → Type 0
-ZeroDownscaleReturns value s d r = (v : ℕ) → zero_upscaled v d s ≡ given value → scaled_read r ≡ given v
+ZeroDownscaleReturns value s d r = (v : ℕ) → zero_upscaled v d s ≡ given value → answered r ≡ given v
 
 -- 3.4: x is the value v of s bits without its s - d low bits, the highest that lies below v or at it once it is shifted back
 pub record Narrowed (s d v x : ℕ) : Type 0 where

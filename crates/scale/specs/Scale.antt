@@ -7,9 +7,9 @@ use Rattle.scale.specs.declared.Scaled.{Scaled}
 use Rattle.scale.specs.declared.Scaled.TheVariants.{Value, OutOfRange}
 
 -- what a call answers
-abbrev pub scaled_read : Scaled → Outcome ℕ
-scaled_read (Value x) = given x
-scaled_read OutOfRange = out_of_range
+abbrev pub answered : Scaled → Outcome ℕ
+answered (Value x) = given x
+answered OutOfRange = out_of_range
 
 -- from 1 bit or more to more bits, at most 32, and the value has s bits
 unfoldable pub widens : ℕ → ℕ → ℕ → Bool

@@ -2,7 +2,8 @@
 #![tactic(auto)]
 
 ghost use Rattle.std.specs.Prelude.{◌≡◌, ◌-◌, ◌*◌, ◌/◌, ◌%◌, ◌^◌, ◌<◌, ◌≤◌, ltb};
-ghost use Rattle.scale.specs.Scale.{scaled_read, widens, narrows, repeated, widened, upscaled, downscaled, zero_upscaled, zero_downscaled};
+ghost use Rattle.ump.specs.Outcome.{answered};
+ghost use Rattle.scale.specs.Scale.{widens, narrows, repeated, widened, upscaled, downscaled, zero_upscaled, zero_downscaled};
 ghost use Rattle.scale.specs.Claims.{Narrowed, OfValue, Widened, OneWidened, UpscaleKeeps, UpscaleRises, DownscaleReturns, ZeroExtended, Rounded, ZeroDownscaleReturns};
 ghost use Rattle.scale.specs.Examples.{ScalesAsTabled};
 
@@ -121,7 +122,7 @@ fn min_center_max(value: u32, src_bits: u8, dst_bits: u8) -> u32
 
 // Min-Center-Max upscaling (3.3): refused unless 1 <= src_bits < dst_bits <= 32 and the value has src_bits bits.
 pub fn upscale(value: u32, src_bits: u8, dst_bits: u8) -> Scaled
-    ensures is { scaled_read result ≡ upscaled value src_bits dst_bits }
+    ensures is { answered result ≡ upscaled value src_bits dst_bits }
     ensures bits { OfValue result (Widened src_bits dst_bits value) }
     ensures one { OfValue result (OneWidened src_bits dst_bits value) }
     ensures kept { UpscaleKeeps src_bits dst_bits }
@@ -136,7 +137,7 @@ pub fn upscale(value: u32, src_bits: u8, dst_bits: u8) -> Scaled
 
 // Min-Center-Max downscaling (3.4): refused unless 1 <= dst_bits < src_bits <= 32 and the value has src_bits bits.
 pub fn downscale(value: u32, src_bits: u8, dst_bits: u8) -> Scaled
-    ensures is { scaled_read result ≡ downscaled value src_bits dst_bits }
+    ensures is { answered result ≡ downscaled value src_bits dst_bits }
     ensures cut { OfValue result (Narrowed src_bits dst_bits value) }
     ensures returns { DownscaleReturns value src_bits dst_bits result }
 {
@@ -148,7 +149,7 @@ pub fn downscale(value: u32, src_bits: u8, dst_bits: u8) -> Scaled
 
 // Zero-Extension upscaling (4.3): refused unless 2 <= src_bits < dst_bits <= 32 and the value has src_bits bits.
 pub fn zero_extend_upscale(value: u32, src_bits: u8, dst_bits: u8) -> Scaled
-    ensures is { scaled_read result ≡ zero_upscaled value src_bits dst_bits }
+    ensures is { answered result ≡ zero_upscaled value src_bits dst_bits }
     ensures bits { OfValue result (ZeroExtended src_bits dst_bits value) }
 {
     if src_bits < 2 {
@@ -162,7 +163,7 @@ pub fn zero_extend_upscale(value: u32, src_bits: u8, dst_bits: u8) -> Scaled
 
 // Zero-Extension downscaling (4.4): refused as `downscale` is.
 pub fn zero_extend_downscale(value: u32, src_bits: u8, dst_bits: u8) -> Scaled
-    ensures is { scaled_read result ≡ zero_downscaled value src_bits dst_bits }
+    ensures is { answered result ≡ zero_downscaled value src_bits dst_bits }
     ensures nearest { OfValue result (Rounded src_bits dst_bits value) }
     ensures returns { ZeroDownscaleReturns value src_bits dst_bits result }
 {

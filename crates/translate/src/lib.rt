@@ -2,7 +2,8 @@
 #![tactic(auto)]
 
 ghost use Rattle.std.specs.Prelude.{◌≡◌, ◌<◌, ◌≤◌, ◌^◌};
-ghost use Rattle.scale.specs.Scale.{scaled_read, widened, zero_extended};
+ghost use Rattle.ump.specs.Outcome.{answered};
+ghost use Rattle.scale.specs.Scale.{widened, zero_extended};
 ghost use Rattle.translate_state.specs.State.{value_in, new_record};
 ghost use Rattle.translate.specs.Translate.{translation_read, given_or0, first_word, controller_data, controller_numbered, controller, joined_value, pending_words, channel_step, entered_after, msb_entered, lsb_entered, passed_on, control_changed, bank_words, program_words, note_words, message_translated, with_state, translation_of, record_after, flush_reply, flushed_record};
 ghost use Rattle.translate.specs.Lists.{translate_words, flush, TranslatorGives, ListContinues, Formed, ExactlyAccepted, OthersRefused, OthersMet};
@@ -42,7 +43,7 @@ struct Stepped {
 
 // The value that was given, and 0 where none was.
 fn value_of(scaled: Scaled) -> u32
-    ensures { result ≡ given_or0 (scaled_read scaled) }
+    ensures { result ≡ given_or0 (answered scaled) }
 {
     match scaled {
         Scaled::Value(x) => x,

@@ -1,5 +1,6 @@
 -- What a public call answers: its value, or the number and the values of document 01, "Replies that decline".
-use Rattle.std.specs.Prelude.{ℕ, List, [], ◌∷◌, ◌++◌}
+use Rattle.std.specs.Prelude.{ℕ, List, [], ◌∷◌, ◌++◌, Option, Some, None, Result, Ok, Err}
+use Rattle.ump.specs.declared.reply.OutOfRange.{OutOfRange}
 
 pub data Outcome (A : Type 0) : Type 0 where
   given : A → Outcome A
@@ -16,6 +17,16 @@ too_small needed got = declined 2 (needed ∷ got ∷ [])
 -- 3, none
 abbrev pub none_there : {A : Type 0} → Outcome A
 none_there = declined 3 []
+
+-- what a call answers that is out of range or gives a value
+abbrev pub answered : {A : Type 0} → Result A OutOfRange → Outcome A
+answered (Ok a) = given a
+answered (Err e) = out_of_range
+
+-- what a call answers that gives a value or has none
+abbrev pub found : {A : Type 0} → Option A → Outcome A
+found (Some a) = given a
+found None = none_there
 
 -- every one of them, or the first refusal
 abbrev pub joined : Outcome ℕ → Outcome (List ℕ) → Outcome (List ℕ)

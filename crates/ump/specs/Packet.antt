@@ -1,20 +1,13 @@
 -- Groups and channels (M2-104 2.1.2): packet values 0 to 15, user-facing numbers 1 to 16.
-use Rattle.std.specs.Prelude.{ℕ, ◌-◌, ◌%◌, ltb, eqb}
+use Rattle.std.specs.Prelude.{ℕ, ◌-◌, ◌%◌, ltb, eqb, Result, Ok, Err}
 use Rattle.ump.specs.Choice.{when◌then◌else◌}
 use Rattle.ump.specs.Outcome.{Outcome, given, out_of_range}
-use Rattle.ump.specs.declared.packet.MadeGroup.{MadeGroup}
-use Rattle.ump.specs.declared.packet.MadeGroup.TheVariants as made_group
-use Rattle.ump.specs.declared.packet.MadeChannel.{MadeChannel}
-use Rattle.ump.specs.declared.packet.MadeChannel.TheVariants as made_channel
+use Rattle.ump.specs.declared.reply.OutOfRange.{OutOfRange}
 
--- the packet value of what was made
-abbrev pub group_made : MadeGroup → Outcome ℕ
-group_made (made_group.Made g) = given g.0
-group_made made_group.OutOfRange = out_of_range
-
-abbrev pub channel_made : MadeChannel → Outcome ℕ
-channel_made (made_channel.Made c) = given c.0
-channel_made made_channel.OutOfRange = out_of_range
+-- what a call answers that makes one, by its packet value
+abbrev pub numbered_as : {A : Type 0} → (A → ℕ) → Result A OutOfRange → Outcome ℕ
+numbered_as index_of (Ok a) = given (index_of a)
+numbered_as index_of (Err e) = out_of_range
 
 -- the low 4 bits
 abbrev pub packet_value : ℕ → ℕ

@@ -1,16 +1,8 @@
 -- The word of a MIDI 1.0 channel voice message (M2-104 7.3, Table 28; document 01, "A byte arrives").
-use Rattle.std.specs.Prelude.{ℕ, ◌+◌, ◌*◌, ◌/◌, ◌%◌, ◌^◌, Bool, true, ◌&&◌, ◌||◌, ltb, leb, eqb, List, [], ◌∷◌}
+use Rattle.std.specs.Prelude.{ℕ, ◌+◌, ◌*◌, ◌/◌, ◌%◌, ◌^◌, Bool, true, ◌&&◌, ◌||◌, ltb, leb, eqb}
 use Rattle.ump.specs.Choice.{when◌then◌else◌}
 use Rattle.ump.specs.Outcome.{Outcome, given, out_of_range}
 use Rattle.ump.specs.Field.{field}
-use Rattle.ump.specs.declared.channel_voice1.Message.{Message}
-use Rattle.ump.specs.declared.channel_voice1.Message.TheVariants.{Word, OutOfRange}
-use Rattle.ump.specs.declared.channel_voice1.TwoWords.{TwoWords}
-use Rattle.ump.specs.declared.channel_voice1.TwoWords.TheVariants as two
-use Rattle.ump.specs.declared.channel_voice1.ThreeWords.{ThreeWords}
-use Rattle.ump.specs.declared.channel_voice1.ThreeWords.TheVariants as three
-use Rattle.ump.specs.declared.channel_voice1.FourWords.{FourWords}
-use Rattle.ump.specs.declared.channel_voice1.FourWords.TheVariants as four
 
 -- the parts of a word
 abbrev pub opcode_of : ℕ → ℕ
@@ -47,24 +39,6 @@ word_form w = form_of (field 28 4 w) (field 15 1 w) (field 7 1 w) (opcode_of w) 
 abbrev pub word_of : ℕ → ℕ → ℕ → ℕ → ℕ → ℕ
 word_of group opcode channel a b =
     2 * 2 ^ 28 + (group * 2 ^ 24 + (opcode * 2 ^ 20 + (channel * 2 ^ 16 + (a * 2 ^ 8 + b))))
-
--- what a constructor answers
-abbrev pub message_made : Message → Outcome ℕ
-message_made (Word w) = given w
-message_made OutOfRange = out_of_range
-
--- what a writer of several messages answers
-abbrev pub two_made : TwoWords → Outcome (List ℕ)
-two_made (two.Words a b) = given (a ∷ b ∷ [])
-two_made two.OutOfRange = out_of_range
-
-abbrev pub three_made : ThreeWords → Outcome (List ℕ)
-three_made (three.Words a b c) = given (a ∷ b ∷ c ∷ [])
-three_made three.OutOfRange = out_of_range
-
-abbrev pub four_made : FourWords → Outcome (List ℕ)
-four_made (four.Words a b c d) = given (a ∷ b ∷ c ∷ d ∷ [])
-four_made four.OutOfRange = out_of_range
 
 -- a message of two 7-bit data bytes, of one, and of one 14-bit value
 unfoldable pub two_data_word : ℕ → ℕ → ℕ → ℕ → ℕ → Outcome ℕ

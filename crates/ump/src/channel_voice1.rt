@@ -1,40 +1,13 @@
 // Words of MIDI 1.0 channel voice messages (channel_voice1.rs): type 2 in bits 28 to 31, group in 24 to 27, opcode in 20 to 23, channel in 16 to 19,
 // first data byte in 8 to 14, second in 0 to 6.
-ghost use Rattle.std.specs.Prelude.{◌≡◌, ◌<◌, [], ◌∷◌};
+ghost use Rattle.std.specs.Prelude.{◌≡◌, ◌<◌};
 ghost use Rattle.ump.specs.Field.{field};
 ghost use Rattle.ump.specs.Packet.{packet_value};
-ghost use Rattle.ump.specs.Word.{opcode_of, channel_of, first_of, second_of, form_of, word_form, word_of, message_made, two_data_word, one_data_word, bend_word, two_made, three_made, four_made, control_change};
-ghost use Rattle.ump.specs.Outcome.{all_of};
+ghost use Rattle.ump.specs.Word.{opcode_of, channel_of, first_of, second_of, form_of, word_form, word_of, two_data_word, one_data_word, bend_word, control_change};
+ghost use Rattle.ump.specs.Outcome.{answered};
 
-use crate::packet::{Channel, Group};
-
-// What a constructor of a message answers: its word, or out of range.
-#[derive(Clone, Copy)]
-pub enum Message {
-    Word(u32),
-    OutOfRange,
-}
-
-// What a writer of two messages answers.
-#[derive(Clone, Copy)]
-pub enum TwoWords {
-    Words(u32, u32),
-    OutOfRange,
-}
-
-// What a writer of three messages answers.
-#[derive(Clone, Copy)]
-pub enum ThreeWords {
-    Words(u32, u32, u32),
-    OutOfRange,
-}
-
-// What a writer of four messages answers.
-#[derive(Clone, Copy)]
-pub enum FourWords {
-    Words(u32, u32, u32, u32),
-    OutOfRange,
-}
+use crate::packet::{Channel, Group, PacketNumber};
+use crate::reply::OutOfRange;
 
 // The message type of a word: 2 in a message.
 pub fn message_type(word: u32) -> u8
@@ -91,28 +64,14 @@ fn bit(word: u32, k: u32) -> u8
 fn has_form(message_type: u8, above_first: u8, above_second: u8, opcode: u8, second: u8) -> bool
     ensures { result ≡ form_of message_type above_first above_second opcode second }
 {
-    if message_type != 2 {
-        return false;
-    }
-    if above_first != 0 {
-        return false;
-    }
-    if above_second != 0 {
-        return false;
-    }
-    if opcode < 0x8 {
-        return false;
-    }
-    if 0xE < opcode {
-        return false;
-    }
-    if opcode == 0xC {
-        return second == 0;
-    }
-    if opcode == 0xD {
-        return second == 0;
-    }
-    true
+    message_type == 2
+        && above_first == 0
+        && above_second == 0
+        && match opcode {
+            0x8..=0xB | 0xE => true,
+            0xC | 0xD => second == 0,
+            _ => false,
+        }
 }
 
 // The word has the form of a message, whatever its group.
@@ -144,43 +103,40 @@ fn word_of(opcode: u8, group: u8, channel: u8, a: u8, b: u8) -> u32
 
 // A message of two data bytes.
 #[tactic(auto, unfolding(crate::specs::Word::two_data_word))]
-fn two_data(opcode: u8, group: u8, channel: u8, a: u8, b: u8) -> Message
+fn two_data(opcode: u8, group: u8, channel: u8, a: u8, b: u8) -> Result<u32, OutOfRange>
     requires { (opcode < 16) × (group < 16) × (channel < 16) }
-    ensures { message_made result ≡ two_data_word opcode group channel a b }
+    ensures { answered result ≡ two_data_word opcode group channel a b }
 {
-    if 0x7F < a {
-        return Message::OutOfRange;
+    if 0x7F < a || 0x7F < b {
+        return Err(OutOfRange);
     }
-    if 0x7F < b {
-        return Message::OutOfRange;
-    }
-    Message::Word(word_of(opcode, group, channel, a, b))
+    Ok(word_of(opcode, group, channel, a, b))
 }
 
 // A message of one data byte.
 #[tactic(auto, unfolding(crate::specs::Word::one_data_word))]
-fn one_data(opcode: u8, group: u8, channel: u8, a: u8) -> Message
+fn one_data(opcode: u8, group: u8, channel: u8, a: u8) -> Result<u32, OutOfRange>
     requires { (opcode < 16) × (group < 16) × (channel < 16) }
-    ensures { message_made result ≡ one_data_word opcode group channel a }
+    ensures { answered result ≡ one_data_word opcode group channel a }
 {
     if 0x7F < a {
-        return Message::OutOfRange;
+        return Err(OutOfRange);
     }
-    Message::Word(word_of(opcode, group, channel, a, 0))
+    Ok(word_of(opcode, group, channel, a, 0))
 }
 
 // A Pitch Bend of a group and a channel below 16.
 #[tactic(auto, unfolding(crate::specs::Word::bend_word))]
-fn bend(group: u8, channel: u8, value: u16) -> Message
+fn bend(group: u8, channel: u8, value: u16) -> Result<u32, OutOfRange>
     requires { (group < 16) × (channel < 16) }
-    ensures { message_made result ≡ bend_word group channel value }
+    ensures { answered result ≡ bend_word group channel value }
 {
     if 0x3FFF < value {
-        return Message::OutOfRange;
+        return Err(OutOfRange);
     }
     let lsb = (value % 128) as u8;
     let msb = (value / 128) as u8;
-    Message::Word(word_of(0xE, group, channel, lsb, msb))
+    Ok(word_of(0xE, group, channel, lsb, msb))
 }
 
 // Note On, opcode 9.
@@ -189,8 +145,13 @@ pub struct Midi1NoteOn {}
 
 impl Midi1NoteOn {
     // Refused for a note or velocity above 127.
-    pub fn try_new(group: Group, channel: Channel, note: u8, velocity: u8) -> Message
-        ensures { message_made result ≡ two_data_word 0x9 (packet_value group.0) (packet_value channel.0) note velocity }
+    pub fn try_new(
+        group: Group,
+        channel: Channel,
+        note: u8,
+        velocity: u8,
+    ) -> Result<u32, OutOfRange>
+        ensures { answered result ≡ two_data_word 0x9 (packet_value group.0) (packet_value channel.0) note velocity }
     {
         two_data(0x9, group.into_bits(), channel.into_bits(), note, velocity)
     }
@@ -202,8 +163,8 @@ pub struct Midi1ControlChange {}
 
 impl Midi1ControlChange {
     // Refused for an index or data above 127.
-    pub fn try_new(group: Group, channel: Channel, index: u8, data: u8) -> Message
-        ensures { message_made result ≡ two_data_word 0xB (packet_value group.0) (packet_value channel.0) index «data» }
+    pub fn try_new(group: Group, channel: Channel, index: u8, data: u8) -> Result<u32, OutOfRange>
+        ensures { answered result ≡ two_data_word 0xB (packet_value group.0) (packet_value channel.0) index «data» }
     {
         two_data(0xB, group.into_bits(), channel.into_bits(), index, data)
     }
@@ -215,8 +176,8 @@ pub struct Midi1ChannelPressure {}
 
 impl Midi1ChannelPressure {
     // Refused for a pressure above 127.
-    pub fn try_new(group: Group, channel: Channel, pressure: u8) -> Message
-        ensures { message_made result ≡ one_data_word 0xD (packet_value group.0) (packet_value channel.0) pressure }
+    pub fn try_new(group: Group, channel: Channel, pressure: u8) -> Result<u32, OutOfRange>
+        ensures { answered result ≡ one_data_word 0xD (packet_value group.0) (packet_value channel.0) pressure }
     {
         one_data(0xD, group.into_bits(), channel.into_bits(), pressure)
     }
@@ -228,64 +189,16 @@ pub struct Midi1PitchBend {}
 
 impl Midi1PitchBend {
     // Refused for a value above 16,383 (centre 8,192).
-    pub fn try_new(group: Group, channel: Channel, value: u16) -> Message
-        ensures { message_made result ≡ bend_word (packet_value group.0) (packet_value channel.0) value }
+    pub fn try_new(group: Group, channel: Channel, value: u16) -> Result<u32, OutOfRange>
+        ensures { answered result ≡ bend_word (packet_value group.0) (packet_value channel.0) value }
     {
         bend(group.into_bits(), channel.into_bits(), value)
     }
 }
 
 // A Control Change with Group 0.
-pub fn control_change(channel: u8, controller: u8, value: u8) -> Message
-    ensures { message_made result ≡ control_change channel controller value }
+pub fn control_change(channel: u8, controller: u8, value: u8) -> Result<u32, OutOfRange>
+    ensures { answered result ≡ control_change channel controller value }
 {
     two_data(0xB, 0, channel % 16, controller, value)
-}
-
-// Both messages, or out of range.
-pub fn two_words(first: Message, second: Message) -> TwoWords
-    ensures { two_made result ≡ all_of (message_made first ∷ message_made second ∷ []) }
-{
-    let Message::Word(a) = first else {
-        return TwoWords::OutOfRange;
-    };
-    let Message::Word(b) = second else {
-        return TwoWords::OutOfRange;
-    };
-    TwoWords::Words(a, b)
-}
-
-// The three messages, or out of range.
-pub fn three_words(first: Message, second: Message, third: Message) -> ThreeWords
-    ensures { three_made result ≡ all_of (message_made first ∷ message_made second ∷ message_made third ∷ []) }
-{
-    let Message::Word(a) = first else {
-        return ThreeWords::OutOfRange;
-    };
-    let Message::Word(b) = second else {
-        return ThreeWords::OutOfRange;
-    };
-    let Message::Word(c) = third else {
-        return ThreeWords::OutOfRange;
-    };
-    ThreeWords::Words(a, b, c)
-}
-
-// The four messages, or out of range.
-pub fn four_words(first: Message, second: Message, third: Message, fourth: Message) -> FourWords
-    ensures { four_made result ≡ all_of (message_made first ∷ message_made second ∷ message_made third ∷ message_made fourth ∷ []) }
-{
-    let Message::Word(a) = first else {
-        return FourWords::OutOfRange;
-    };
-    let Message::Word(b) = second else {
-        return FourWords::OutOfRange;
-    };
-    let Message::Word(c) = third else {
-        return FourWords::OutOfRange;
-    };
-    let Message::Word(d) = fourth else {
-        return FourWords::OutOfRange;
-    };
-    FourWords::Words(a, b, c, d)
 }

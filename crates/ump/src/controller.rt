@@ -3,7 +3,7 @@ ghost use Rattle.std.specs.Prelude.{◌≡◌};
 ghost use Rattle.ump.specs.Controller.{rpn_given, rpn_parts, rpn_numbered, rpn_of};
 
 // A Registered Parameter Number (MIDI 1.0, Table IIIa), chosen by controllers 101 and 100.
-#[derive(Clone, Copy)]
+#[derive(Clone, Copy, Debug, PartialEq, Eq)]
 pub enum Rpn {
     // 00 00
     PitchBendSensitivity,
@@ -24,7 +24,7 @@ pub enum Rpn {
 }
 
 // The values of controllers 101 and 100.
-#[derive(Clone, Copy)]
+#[derive(Clone, Copy, Debug, PartialEq, Eq)]
 pub struct Parts {
     pub msb: u8,
     pub lsb: u8,
@@ -35,34 +35,16 @@ pub struct Parts {
 fn numbered(msb: u8, lsb: u8) -> Rpn
     ensures { result ≡ rpn_numbered msb lsb }
 {
-    if msb == 0x7F {
-        if lsb == 0x7F {
-            return Rpn::Null;
-        }
-        return Rpn::Other { msb, lsb };
+    match (msb, lsb) {
+        (0x7F, 0x7F) => Rpn::Null,
+        (0, 0) => Rpn::PitchBendSensitivity,
+        (0, 1) => Rpn::FineTuning,
+        (0, 2) => Rpn::CoarseTuning,
+        (0, 3) => Rpn::TuningProgramSelect,
+        (0, 4) => Rpn::TuningBankSelect,
+        (0, 5) => Rpn::ModulationDepthRange,
+        _ => Rpn::Other { msb, lsb },
     }
-    if msb != 0 {
-        return Rpn::Other { msb, lsb };
-    }
-    if lsb == 0 {
-        return Rpn::PitchBendSensitivity;
-    }
-    if lsb == 1 {
-        return Rpn::FineTuning;
-    }
-    if lsb == 2 {
-        return Rpn::CoarseTuning;
-    }
-    if lsb == 3 {
-        return Rpn::TuningProgramSelect;
-    }
-    if lsb == 4 {
-        return Rpn::TuningBankSelect;
-    }
-    if lsb == 5 {
-        return Rpn::ModulationDepthRange;
-    }
-    Rpn::Other { msb, lsb }
 }
 
 impl Rpn {

@@ -4,3 +4,4 @@
 pub mod channel_voice1;
 pub mod controller;
 pub mod packet;
+pub mod reply;

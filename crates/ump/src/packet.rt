@@ -1,131 +1,86 @@
 // Groups and channels of a packet (packet.rs).
-ghost use Rattle.std.specs.Prelude.{◌≡◌, ◌+◌, ◌%◌};
-ghost use Rattle.ump.specs.Packet.{from_index, from_number, group_made, channel_made, packet_value};
+ghost use Rattle.std.specs.Prelude.{◌≡◌, ◌+◌, ◌<◌, ℕ};
+ghost use Rattle.ump.specs.Outcome.{given, out_of_range};
+ghost use Rattle.ump.specs.Packet.{from_index, from_number, numbered_as, packet_value};
 
-// A Group, by its packet value 0 to 15.
-#[derive(Clone, Copy)]
-pub struct Group(u8);
+use crate::reply::OutOfRange;
 
-// What a call that makes a Group answers.
-#[derive(Clone, Copy)]
-pub enum MadeGroup {
-    Made(Group),
-    OutOfRange,
-}
+// A number of a packet with 4 bits: packet values 0 to 15, which people count from 1 to 16.
+pub trait PacketNumber: Copy + Drop {
+    // The packet value.
+    ghost index_of: { Self → ℕ };
 
-impl Group {
-    // The Group with packet value `index`, 0 to 15.
-    pub fn new(index: u8) -> MadeGroup
-        ensures { group_made result ≡ from_index index }
-    {
-        if 0xF < index {
-            return MadeGroup::OutOfRange;
-        }
-        MadeGroup::Made(Group(index))
-    }
-
-    // The Group with user-facing number `number`, 1 to 16.
-    pub fn from_number(number: u8) -> MadeGroup
-        ensures { group_made result ≡ from_number number }
-    {
-        if number == 0 {
-            return MadeGroup::OutOfRange;
-        }
-        if 16 < number {
-            return MadeGroup::OutOfRange;
-        }
-        MadeGroup::Made(Group(number - 1))
-    }
+    // The one for the low 4 bits of `value`.
+    fn from_bits(value: u8) -> Self
+        ensures { index_of result ≡ packet_value value };
 
     // The packet value, 0 to 15.
-    pub fn index(self) -> u8
-        ensures { result ≡ packet_value self.0 }
+    fn index(self) -> u8
+        ensures { (result ≡ index_of self) × (result < 16) };
+
+    // The one with packet value `index`, 0 to 15.
+    fn new(index: u8) -> Result<Self, OutOfRange>
+        ensures { numbered_as index_of result ≡ from_index index }
     {
-        self.0 % 16
+        if 0xF < index {
+            return Err(OutOfRange);
+        }
+        Ok(Self::from_bits(index))
+    }
+
+    // The one with user-facing number `number`, 1 to 16.
+    fn from_number(number: u8) -> Result<Self, OutOfRange>
+        ensures { numbered_as index_of result ≡ from_number number }
+    {
+        if number == 0 || 16 < number {
+            return Err(OutOfRange);
+        }
+        Ok(Self::from_bits(number - 1))
     }
 
     // The user-facing number, 1 to 16.
-    pub fn number(self) -> u8
-        ensures { result ≡ packet_value self.0 + 1 }
+    fn number(self) -> u8
+        ensures { result ≡ index_of self + 1 }
     {
-        self.0 % 16 + 1
+        self.index() + 1
     }
 
     // The 4-bit field value.
-    pub fn into_bits(self) -> u8
-        ensures { result ≡ packet_value self.0 }
+    fn into_bits(self) -> u8
+        ensures { (result ≡ index_of self) × (result < 16) }
     {
-        self.0 % 16
+        self.index()
+    }
+}
+
+// A Group, by its packet value 0 to 15.
+#[derive(Clone, Copy, Debug, PartialEq, Eq)]
+pub struct Group(u8);
+
+impl PacketNumber for Group {
+    ghost index_of = { λ group. packet_value group.0 };
+
+    fn from_bits(value: u8) -> Group {
+        Group(value % 16)
     }
 
-    // The Group for the low 4 bits of `value`.
-    pub fn from_bits(value: u8) -> Group
-        ensures { result.0 ≡ packet_value value }
-    {
-        Group(value % 16)
+    fn index(self) -> u8 {
+        self.0 % 16
     }
 }
 
 // A MIDI Channel, by its packet value 0 to 15.
-#[derive(Clone, Copy)]
+#[derive(Clone, Copy, Debug, PartialEq, Eq)]
 pub struct Channel(u8);
 
-// What a call that makes a Channel answers.
-#[derive(Clone, Copy)]
-pub enum MadeChannel {
-    Made(Channel),
-    OutOfRange,
-}
+impl PacketNumber for Channel {
+    ghost index_of = { λ channel. packet_value channel.0 };
 
-impl Channel {
-    // The Channel with packet value `index`, 0 to 15.
-    pub fn new(index: u8) -> MadeChannel
-        ensures { channel_made result ≡ from_index index }
-    {
-        if 0xF < index {
-            return MadeChannel::OutOfRange;
-        }
-        MadeChannel::Made(Channel(index))
-    }
-
-    // The Channel with user-facing number `number`, 1 to 16.
-    pub fn from_number(number: u8) -> MadeChannel
-        ensures { channel_made result ≡ from_number number }
-    {
-        if number == 0 {
-            return MadeChannel::OutOfRange;
-        }
-        if 16 < number {
-            return MadeChannel::OutOfRange;
-        }
-        MadeChannel::Made(Channel(number - 1))
-    }
-
-    // The packet value, 0 to 15.
-    pub fn index(self) -> u8
-        ensures { result ≡ packet_value self.0 }
-    {
-        self.0 % 16
-    }
-
-    // The user-facing number, 1 to 16.
-    pub fn number(self) -> u8
-        ensures { result ≡ packet_value self.0 + 1 }
-    {
-        self.0 % 16 + 1
-    }
-
-    // The 4-bit field value.
-    pub fn into_bits(self) -> u8
-        ensures { result ≡ packet_value self.0 }
-    {
-        self.0 % 16
-    }
-
-    // The Channel for the low 4 bits of `value`.
-    pub fn from_bits(value: u8) -> Channel
-        ensures { result.0 ≡ packet_value value }
-    {
+    fn from_bits(value: u8) -> Channel {
         Channel(value % 16)
+    }
+
+    fn index(self) -> u8 {
+        self.0 % 16
     }
 }

@@ -3,11 +3,11 @@ use Prim.Native.Nat.{ℕ}
 use mathlib.Core.Path.{◌≡◌, ap, sym, ◌∙◌}
 use mathlib.Core.Bool.{Bool, true, false, true≢false}
 use borrow.Author.Tests.{lt-ltb, le-ltb}
-use Rattle.ump.specs.Outcome.{Outcome, given, declined, out_of_range}
+use Rattle.ump.specs.Outcome.{Outcome, given, declined, out_of_range, answered}
 use Rattle.ump.proofs.Cases.{by-test, chosen, passed}
 use Rattle.mpe_layout.specs.declared.MpeZone.{MpeZone}
 use Rattle.mpe_layout.specs.declared.MpeLayout.{MpeLayout}
-use Rattle.mpe_layout.specs.Layout.{legal, of_legal, layout_made, mcm_layout, with_mcm}
+use Rattle.mpe_layout.specs.Layout.{legal, of_legal, mcm_layout, with_mcm}
 use Rattle.mpe_reset.specs.Reset.{announcement_mask, mask_or_zero}
 use Rattle.mpe_layout.proofs.Mcm.{mcm-legal}
 use Rattle.mpe_zones.specs.Zones.{with_layout, activated_if, zones_announced, announced_reply}
@@ -55,7 +55,7 @@ unfolding announced_reply zones_announced
 returns-in_default c =
     let a = c.args in
     let within = le-ltb _ _ c.if-members-gt15.false in
-    let h = declined-illegal a.self.layout a.zone a.members (ap layout_made (sym c.in_default.is) ∙ c.with_mcm.ensures) in
+    let h = declined-illegal a.self.layout a.zone a.members (ap answered (sym c.in_default.is) ∙ c.with_mcm.ensures) in
     record {
       reply = rw (within, h) c.declined-in_default.ensures.0;
       zones = rw (within, h) c.declined-in_default.ensures.1;
@@ -68,7 +68,7 @@ returns c =
     let a = c.args in
     let l = a.self.layout in
     let within = le-ltb _ _ c.if-members-gt15.false in
-    let e = ap layout_made (sym c.in-Made.is) ∙ c.with_mcm.ensures in
+    let e = ap answered (sym c.in-Made.is) ∙ c.with_mcm.ensures in
     let h = given-legal l a.zone a.members e in
     let to = given-after l a.zone a.members e in
     let mask = c.announcement_reset.ensures ∙ ap (λ x. of_legal l (of_legal x (given (announcement_mask l x a.zone)))) to in
