@@ -13,7 +13,8 @@ use Rattle.ump.specs.Choice.{when◌then◌else◌}
 use Rattle.ump.specs.Outcome.{given, out_of_range, answered}
 use Rattle.ump.specs.Field.{field}
 use Rattle.ump.proofs.Cases.{by-test, both}
-use Rattle.scale.specs.declared.Scaled.{Scaled}
+use Rattle.ump.specs.declared.reply.OutOfRange.{OutOfRange}
+use Rattle.std.specs.Prelude.{Result}
 use Rattle.scale.specs.Scale.{widens, narrows, repeated, widened, narrowed, zero_extended, rounded, upscaled, downscaled, zero_upscaled, zero_downscaled}
 use Rattle.scale.specs.Claims.{OfValue, Widened, OneWidened, UpscaleKeeps, UpscaleRises, DownscaleReturns, Narrowed, ZeroDownscaleReturns, ZeroExtended, NearestUp, HalfAbove, Rounded}
 use Rattle.scale.specs.Examples.{ScalesAsTabled, scale_table, scale_answer}
@@ -218,7 +219,7 @@ rounded-is v s d x e =
 
 -- all that is promised of an answer, of each call
 pub upscale-claims :
-    (r : Scaled) (v s d : ℕ) → answered r ≡ upscaled v s d →
+    (r : Result ℕ OutOfRange) (v s d : ℕ) → answered r ≡ upscaled v s d →
     (answered r ≡ upscaled v s d)
     × (OfValue r (Widened s d v) × (OfValue r (OneWidened s d v) × (UpscaleKeeps s d × (UpscaleRises s d × ScalesAsTabled))))
 upscale-claims r v s d e = (
@@ -237,18 +238,18 @@ upscale-claims r v s d e = (
 )
 
 pub downscale-claims :
-    (r : Scaled) (v s d : ℕ) → answered r ≡ downscaled v s d →
+    (r : Result ℕ OutOfRange) (v s d : ℕ) → answered r ≡ downscaled v s d →
     (answered r ≡ downscaled v s d) × (OfValue r (Narrowed s d v) × DownscaleReturns v s d r)
 downscale-claims r v s d e =
     (e, ((λ x g. narrowed-is v s d x (sym e ∙ ap answered g)), (λ w g. e ∙ returned w d s v g)))
 
 pub zero-extend-upscale-claims :
-    (r : Scaled) (v s d : ℕ) → answered r ≡ zero_upscaled v s d →
+    (r : Result ℕ OutOfRange) (v s d : ℕ) → answered r ≡ zero_upscaled v s d →
     (answered r ≡ zero_upscaled v s d) × OfValue r (ZeroExtended s d v)
 zero-extend-upscale-claims r v s d e = (e, (λ x g. zero-extended-is v s d x (sym e ∙ ap answered g)))
 
 pub zero-extend-downscale-claims :
-    (r : Scaled) (v s d : ℕ) → answered r ≡ zero_downscaled v s d →
+    (r : Result ℕ OutOfRange) (v s d : ℕ) → answered r ≡ zero_downscaled v s d →
     (answered r ≡ zero_downscaled v s d) × (OfValue r (Rounded s d v) × ZeroDownscaleReturns v s d r)
 zero-extend-downscale-claims r v s d e =
     (e, ((λ x g. rounded-is v s d x (sym e ∙ ap answered g)), (λ w g. e ∙ zero-returned w d s v g)))

@@ -1,14 +1,13 @@
 -- What holds of scaled values, over all widths (M2-115 3.2, 3.3, 4.2 to 4.4).
-use Rattle.std.specs.Prelude.{◌≡◌, ◌⊎◌, ℕ, ◌+◌, ◌-◌, ◌*◌, ◌/◌, ◌%◌, ◌^◌, ◌<◌, ◌≤◌}
+use Rattle.std.specs.Prelude.{◌≡◌, ◌⊎◌, ℕ, ◌+◌, ◌-◌, ◌*◌, ◌/◌, ◌%◌, ◌^◌, ◌<◌, ◌≤◌, Result, Ok}
 use Rattle.ump.specs.Outcome.{given, answered}
 use Rattle.ump.specs.Field.{field}
-use Rattle.scale.specs.declared.Scaled.{Scaled}
-use Rattle.scale.specs.declared.Scaled.TheVariants.{Value}
+use Rattle.ump.specs.declared.reply.OutOfRange.{OutOfRange}
 use Rattle.scale.specs.Scale.{upscaled, zero_upscaled}
 
 -- a fact of the value that a call gives
-abbrev pub OfValue : Scaled → (ℕ → Type 0) → Type 0
-OfValue r fact = (x : ℕ) → r ≡ Value x → fact x
+abbrev pub OfValue : Result ℕ OutOfRange → (ℕ → Type 0) → Type 0
+OfValue r fact = (x : ℕ) → r ≡ Ok x → fact x
 
 -- 3.3: x is the value v of s bits widened to d
 pub record Widened (s d v x : ℕ) : Type 0 where
@@ -40,11 +39,11 @@ abbrev pub UpscaleRises : ℕ → ℕ → Type 0
 UpscaleRises s d = (v w x y : ℕ) → upscaled v s d ≡ given x → upscaled w s d ≡ given y → v < w → x < y
 
 -- 3.2: a value that was widened from d bits to s is returned by narrowing it from s to d
-abbrev pub DownscaleReturns : ℕ → ℕ → ℕ → Scaled → Type 0
+abbrev pub DownscaleReturns : ℕ → ℕ → ℕ → Result ℕ OutOfRange → Type 0
 DownscaleReturns value s d r = (v : ℕ) → upscaled v d s ≡ given value → answered r ≡ given v
 
 -- 4.2: the same of Zero-Extension
-abbrev pub ZeroDownscaleReturns : ℕ → ℕ → ℕ → Scaled → Type 0
+abbrev pub ZeroDownscaleReturns : ℕ → ℕ → ℕ → Result ℕ OutOfRange → Type 0
 ZeroDownscaleReturns value s d r = (v : ℕ) → zero_upscaled v d s ≡ given value → answered r ≡ given v
 
 -- 3.4: x is the value v of s bits without its s - d low bits, the highest that lies below v or at it once it is shifted back

@@ -3,13 +3,6 @@ use Rattle.std.specs.Prelude.{ℕ, zero, suc, ◌+◌, ◌-◌, ◌*◌, ◌/◌
 use Rattle.ump.specs.Choice.{when◌then◌else◌}
 use Rattle.ump.specs.Outcome.{Outcome, given, out_of_range}
 use Rattle.ump.specs.Field.{field}
-use Rattle.scale.specs.declared.Scaled.{Scaled}
-use Rattle.scale.specs.declared.Scaled.TheVariants.{Value, OutOfRange}
-
--- what a call answers
-abbrev pub answered : Scaled → Outcome ℕ
-answered (Value x) = given x
-answered OutOfRange = out_of_range
 
 -- from 1 bit or more to more bits, at most 32, and the value has s bits
 unfoldable pub widens : ℕ → ℕ → ℕ → Bool

@@ -7,21 +7,13 @@ ghost use Rattle.scale.specs.Scale.{widens, narrows, repeated, widened, upscaled
 ghost use Rattle.scale.specs.Claims.{Narrowed, OfValue, Widened, OneWidened, UpscaleKeeps, UpscaleRises, DownscaleReturns, ZeroExtended, Rounded, ZeroDownscaleReturns};
 ghost use Rattle.scale.specs.Examples.{ScalesAsTabled};
 
-// What a call answers: the scaled value, or out of range.
-#[derive(Clone, Copy)]
-pub enum Scaled {
-    Value(u32),
-    OutOfRange,
-}
+use ump::reply::OutOfRange;
 
 // The value has this many bits.
 fn fits(value: u32, bits: u8) -> bool
     ensures { result ≡ ltb value (2 ^ bits) }
 {
-    if bits >= 32 {
-        return true;
-    }
-    value < (1u32 << bits)
+    bits >= 32 || value < (1u32 << bits)
 }
 
 // The highest value of this many bits.
@@ -36,35 +28,19 @@ fn max_value(bits: u8) -> u32
 }
 
 // From 1 bit or more to more bits, at most 32, and the value has the source's bits.
+#[tactic(auto, unfolding(crate::specs::Scale::widens))]
 fn can_upscale(value: u32, src_bits: u8, dst_bits: u8) -> bool
     ensures { result ≡ widens src_bits dst_bits value }
 {
-    if src_bits == 0 {
-        return false;
-    }
-    if dst_bits > 32 {
-        return false;
-    }
-    if src_bits >= dst_bits {
-        return false;
-    }
-    fits(value, src_bits)
+    src_bits >= 1 && dst_bits <= 32 && src_bits < dst_bits && fits(value, src_bits)
 }
 
 // From at most 32 bits to fewer, at least 1, and the value has the source's bits.
+#[tactic(auto, unfolding(crate::specs::Scale::narrows))]
 fn can_downscale(value: u32, src_bits: u8, dst_bits: u8) -> bool
     ensures { result ≡ narrows src_bits dst_bits value }
 {
-    if dst_bits == 0 {
-        return false;
-    }
-    if src_bits > 32 {
-        return false;
-    }
-    if dst_bits >= src_bits {
-        return false;
-    }
-    fits(value, src_bits)
+    dst_bits >= 1 && src_bits <= 32 && dst_bits < src_bits && fits(value, src_bits)
 }
 
 // The low bits of a value, this many.
@@ -121,7 +97,7 @@ fn min_center_max(value: u32, src_bits: u8, dst_bits: u8) -> u32
 }
 
 // Min-Center-Max upscaling (3.3): refused unless 1 <= src_bits < dst_bits <= 32 and the value has src_bits bits.
-pub fn upscale(value: u32, src_bits: u8, dst_bits: u8) -> Scaled
+pub fn upscale(value: u32, src_bits: u8, dst_bits: u8) -> Result<u32, OutOfRange>
     ensures is { answered result ≡ upscaled value src_bits dst_bits }
     ensures bits { OfValue result (Widened src_bits dst_bits value) }
     ensures one { OfValue result (OneWidened src_bits dst_bits value) }
@@ -130,52 +106,52 @@ pub fn upscale(value: u32, src_bits: u8, dst_bits: u8) -> Scaled
     ensures examples { ScalesAsTabled }
 {
     if can_upscale(value, src_bits, dst_bits) {
-        return Scaled::Value(min_center_max(value, src_bits, dst_bits));
+        return Ok(min_center_max(value, src_bits, dst_bits));
     }
-    Scaled::OutOfRange
+    Err(OutOfRange)
 }
 
 // Min-Center-Max downscaling (3.4): refused unless 1 <= dst_bits < src_bits <= 32 and the value has src_bits bits.
-pub fn downscale(value: u32, src_bits: u8, dst_bits: u8) -> Scaled
+pub fn downscale(value: u32, src_bits: u8, dst_bits: u8) -> Result<u32, OutOfRange>
     ensures is { answered result ≡ downscaled value src_bits dst_bits }
     ensures cut { OfValue result (Narrowed src_bits dst_bits value) }
     ensures returns { DownscaleReturns value src_bits dst_bits result }
 {
     if can_downscale(value, src_bits, dst_bits) {
-        return Scaled::Value(value >> (src_bits - dst_bits));
+        return Ok(value >> (src_bits - dst_bits));
     }
-    Scaled::OutOfRange
+    Err(OutOfRange)
 }
 
 // Zero-Extension upscaling (4.3): refused unless 2 <= src_bits < dst_bits <= 32 and the value has src_bits bits.
-pub fn zero_extend_upscale(value: u32, src_bits: u8, dst_bits: u8) -> Scaled
+pub fn zero_extend_upscale(value: u32, src_bits: u8, dst_bits: u8) -> Result<u32, OutOfRange>
     ensures is { answered result ≡ zero_upscaled value src_bits dst_bits }
     ensures bits { OfValue result (ZeroExtended src_bits dst_bits value) }
 {
     if src_bits < 2 {
-        return Scaled::OutOfRange;
+        return Err(OutOfRange);
     }
     if can_upscale(value, src_bits, dst_bits) {
-        return Scaled::Value(value << (dst_bits - src_bits));
+        return Ok(value << (dst_bits - src_bits));
     }
-    Scaled::OutOfRange
+    Err(OutOfRange)
 }
 
 // Zero-Extension downscaling (4.4): refused as `downscale` is.
-pub fn zero_extend_downscale(value: u32, src_bits: u8, dst_bits: u8) -> Scaled
+pub fn zero_extend_downscale(value: u32, src_bits: u8, dst_bits: u8) -> Result<u32, OutOfRange>
     ensures is { answered result ≡ zero_downscaled value src_bits dst_bits }
     ensures nearest { OfValue result (Rounded src_bits dst_bits value) }
     ensures returns { ZeroDownscaleReturns value src_bits dst_bits result }
 {
     if !can_downscale(value, src_bits, dst_bits) {
-        return Scaled::OutOfRange;
+        return Err(OutOfRange);
     }
     let scale_bits = src_bits - dst_bits;
     let half = 1u64 << (scale_bits - 1);
     let shifted = (value as u64 + half) >> scale_bits;
     let max = max_value(dst_bits);
     if shifted <= max as u64 {
-        return Scaled::Value(shifted as u32);
+        return Ok(shifted as u32);
     }
-    Scaled::Value(max)
+    Ok(max)
 }

@@ -1,6 +1,5 @@
 -- `scale::bit_repeated` meets its contract. The loop's invariant: what is left to add is the next repeat, and n bits lower the others.
 -- The measure is the next repeat.
-use Prim.Native.Nat.{◌-◌}
 use Rattle.scale.specs.Scale.{repeated}
 use Rattle.scale.proofs.Repeat.{Left}
 use Rattle.scale.proofs.bit_repeated.Given as goal

@@ -3,7 +3,7 @@ use native.Mathlib.Omega.{arith}
 use Prim.Native.Nat.{◌-◌, ◌/◌, ◌^◌}
 use mathlib.Core.Path.{sym, ◌∙◌}
 use Rattle.scale.specs.Scale.{downscaled, narrowed}
-use Rattle.scale.specs.declared.Scaled.TheVariants.{Value, OutOfRange}
+use Rattle.std.specs.Prelude.{Ok, Err}
 use Rattle.scale.proofs.Claims.{downscale-claims}
 use Rattle.scale.proofs.Range.{narrowing}
 use Rattle.scale.proofs.downscale.Goals as goal
@@ -22,12 +22,12 @@ pub returns-then-can_downscale : goal.returns-then-can_downscale
 unfolding downscaled narrowed
 returns-then-can_downscale c =
     let a = c.args in
-    let p = downscale-claims (Value (a.value / 2 ^ (a.src_bits - a.dst_bits))) a.value a.src_bits a.dst_bits (rw (sym c.can_downscale.ensures ∙ c.if-can_downscale.true)) in
+    let p = downscale-claims (Ok (a.value / 2 ^ (a.src_bits - a.dst_bits))) a.value a.src_bits a.dst_bits (rw (sym c.can_downscale.ensures ∙ c.if-can_downscale.true)) in
     record { is = p.0; cut = p.1.0; returns = p.1.1 }
 
 pub returns : goal.returns
 unfolding downscaled
 returns c =
     let a = c.args in
-    let p = downscale-claims OutOfRange a.value a.src_bits a.dst_bits (rw (sym c.can_downscale.ensures ∙ c.if-can_downscale.false)) in
+    let p = downscale-claims (Err _) a.value a.src_bits a.dst_bits (rw (sym c.can_downscale.ensures ∙ c.if-can_downscale.false)) in
     record { is = p.0; cut = p.1.0; returns = p.1.1 }

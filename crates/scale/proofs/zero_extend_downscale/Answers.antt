@@ -6,7 +6,7 @@ use native.Mathlib.Nat.{le_of_lt, min-eq_left, min-eq_right}
 use lib.Pow.{pow_mono}
 use Rattle.ump.specs.Outcome.{given}
 use Rattle.scale.specs.Scale.{zero_downscaled, rounded}
-use Rattle.scale.specs.declared.Scaled.TheVariants.{Value, OutOfRange}
+use Rattle.std.specs.Prelude.{Ok, Err}
 use Rattle.scale.proofs.Claims.{zero-extend-downscale-claims}
 use Rattle.scale.proofs.Range.{narrows-holds, narrowing, one_shifted}
 use Rattle.scale.proofs.zero_extend_downscale.Goals as goal
@@ -15,7 +15,7 @@ pub returns-then-not-can_downscale : goal.returns-then-not-can_downscale
 unfolding zero_downscaled
 returns-then-not-can_downscale c =
     let a = c.args in
-    let p = zero-extend-downscale-claims OutOfRange a.value a.src_bits a.dst_bits (rw (sym c.can_downscale.ensures ∙ c.if-not-can_downscale.true)) in
+    let p = zero-extend-downscale-claims (Err _) a.value a.src_bits a.dst_bits (rw (sym c.can_downscale.ensures ∙ c.if-not-can_downscale.true)) in
     record { is = p.0; nearest = p.1.0; returns = p.1.1 }
 
 pub overflow_sub-scale_bits : goal.overflow_sub-scale_bits
@@ -60,7 +60,7 @@ returns-then-shifted-max c =
     let h : (a.value + 2 ^ (k - 1)) / 2 ^ k ≤ 2 ^ a.dst_bits - 1 =
     subst (λ (x : ℕ). (a.value + x) / 2 ^ k ≤ 2 ^ a.dst_bits - 1) half (subst (λ (x : ℕ). (a.value + 1 * 2 ^ (k - 1) % 2 ^ 64) / 2 ^ k ≤ x) highest c.if-shifted-max.true) in
     let n = narrows-holds a.src_bits a.dst_bits a.value r in
-    let p = zero-extend-downscale-claims (Value ((a.value + 1 * 2 ^ (k - 1) % 2 ^ 64) / 2 ^ k)) a.value a.src_bits a.dst_bits (rw n (ap given (rw half (sym (min-eq_left h))))) in
+    let p = zero-extend-downscale-claims (Ok ((a.value + 1 * 2 ^ (k - 1) % 2 ^ 64) / 2 ^ k)) a.value a.src_bits a.dst_bits (rw n (ap given (rw half (sym (min-eq_left h))))) in
     record { is = p.0; nearest = p.1.0; returns = p.1.1 }
 
 pub returns : goal.returns
@@ -74,5 +74,5 @@ returns c =
     let h : 2 ^ a.dst_bits - 1 < (a.value + 2 ^ (k - 1)) / 2 ^ k =
     subst (λ (x : ℕ). 2 ^ a.dst_bits - 1 < (a.value + x) / 2 ^ k) half (subst (λ (x : ℕ). x < (a.value + 1 * 2 ^ (k - 1) % 2 ^ 64) / 2 ^ k) highest c.if-shifted-max.false) in
     let n = narrows-holds a.src_bits a.dst_bits a.value r in
-    let p = zero-extend-downscale-claims (Value c.max_value-max.result) a.value a.src_bits a.dst_bits (rw n (ap given (highest ∙ sym (min-eq_right (le_of_lt h))))) in
+    let p = zero-extend-downscale-claims (Ok c.max_value-max.result) a.value a.src_bits a.dst_bits (rw n (ap given (highest ∙ sym (min-eq_right (le_of_lt h))))) in
     record { is = p.0; nearest = p.1.0; returns = p.1.1 }
