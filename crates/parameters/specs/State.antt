@@ -1,21 +1,17 @@
 -- The parameter receiver of one channel (MIDI 1.0 pp. 17, 18; RP-015; document 01, "The message reaches its channel's parameters").
-use Rattle.std.specs.Prelude.{ℕ, Bool, true, false, not, ltb, eqb}
+use Rattle.std.specs.Prelude.{ℕ, Bool, true, false, not, ltb, eqb, Option, Some, None}
 use Rattle.ump.specs.Choice.{when◌then◌else◌}
 use Rattle.ump.specs.Outcome.{Outcome, given, out_of_range}
 use Rattle.ump.specs.Word.{opcode_of, first_of, second_of, word_form}
 use Rattle.ump.specs.Controller.{rpn_of}
+use Rattle.parameter_event.specs.declared.Parameter.{Parameter}
 use Rattle.parameter_event.specs.declared.Parameter.TheVariants.{Registered, NonRegistered}
 use Rattle.parameter_event.specs.declared.ParameterChange.{ParameterChange}
 use Rattle.parameter_event.specs.declared.ParameterChange.TheVariants.{DataEntryMsb, DataEntryLsb, Increment, Decrement}
+use Rattle.parameter_event.specs.declared.ParameterEvent.{ParameterEvent}
 use Rattle.parameters.specs.declared.Number.{Number}
 use Rattle.parameters.specs.declared.ParameterState.{ParameterState}
-use Rattle.parameters.specs.declared.Selection.{Selection}
-use Rattle.parameters.specs.declared.Selection.TheVariants.{Nothing, Selected}
-use Rattle.parameters.specs.declared.MaybeEvent.{MaybeEvent}
-use Rattle.parameters.specs.declared.MaybeEvent.TheVariants.{NoEvent, Event}
 use Rattle.parameters.specs.declared.ParameterUpdate.{ParameterUpdate}
-use Rattle.parameters.specs.declared.Reply.{Reply}
-use Rattle.parameters.specs.declared.Reply.TheVariants as reply
 
 abbrev pub number : ℕ → ℕ → Number
 number m l = record { msb = m; lsb = l }
@@ -45,17 +41,15 @@ abbrev pub selects : ℕ → ℕ → Bool
 selects m l =
     when ltb 0x7F m then false else when ltb 0x7F l then false else when eqb m 0x7F then not (eqb l 0x7F) else true
 
-abbrev pub selected_rpn : Bool → ℕ → ℕ → Selection
-selected_rpn on m l = when on then (when selects m l then Selected (Registered (rpn_of m l)) else Nothing) else Nothing
-
-abbrev pub selected_nrpn : Bool → ℕ → ℕ → Selection
-selected_nrpn on m l = when on then (when selects m l then Selected (NonRegistered m l) else Nothing) else Nothing
+-- the parameter of a number whose reception is on
+abbrev pub selected : Bool → Number → Parameter → Option Parameter
+selected on n p = when on then (when selects n.msb n.lsb then Some p else None) else None
 
 -- the parameter that a data entry acts on: of the kind stored last, where its reception is on
-unfoldable pub selection_of : ParameterState → Selection
+unfoldable pub selection_of : ParameterState → Option Parameter
 selection_of s =
-    when s.nrpn_last then selected_nrpn s.nrpn_on s.nrpn.msb s.nrpn.lsb
-    else selected_rpn s.rpn_on s.rpn.msb s.rpn.lsb
+    when s.nrpn_last then selected s.nrpn_on s.nrpn (NonRegistered s.nrpn.msb s.nrpn.lsb)
+    else selected s.rpn_on s.rpn (Registered (rpn_of s.rpn.msb s.rpn.lsb))
 
 -- RP-015
 abbrev pub nulled : ParameterState → ParameterState
@@ -69,29 +63,36 @@ nulled s =
     }
 
 -- p. 17, rule 3: going on, it waits again for both halves
+abbrev pub number_switched : Number → Bool → Bool → Number
+number_switched n was_on on = when on then (when was_on then n else missing) else n
+
 abbrev pub rpn_switched : ParameterState → Bool → ParameterState
 rpn_switched s on =
-    when on then
-    (when s.rpn_on then s else
-    record { rpn = missing; nrpn = s.nrpn; nrpn_last = s.nrpn_last; rpn_on = true; nrpn_on = s.nrpn_on })
-    else
-    record { rpn = s.rpn; nrpn = s.nrpn; nrpn_last = s.nrpn_last; rpn_on = false; nrpn_on = s.nrpn_on }
+    record {
+      rpn = number_switched s.rpn s.rpn_on on;
+      nrpn = s.nrpn;
+      nrpn_last = s.nrpn_last;
+      rpn_on = on;
+      nrpn_on = s.nrpn_on;
+    }
 
 abbrev pub nrpn_switched : ParameterState → Bool → ParameterState
 nrpn_switched s on =
-    when on then
-    (when s.nrpn_on then s else
-    record { rpn = s.rpn; nrpn = missing; nrpn_last = s.nrpn_last; rpn_on = s.rpn_on; nrpn_on = true })
-    else
-    record { rpn = s.rpn; nrpn = s.nrpn; nrpn_last = s.nrpn_last; rpn_on = s.rpn_on; nrpn_on = false }
+    record {
+      rpn = s.rpn;
+      nrpn = number_switched s.nrpn s.nrpn_on on;
+      nrpn_last = s.nrpn_last;
+      rpn_on = s.rpn_on;
+      nrpn_on = on;
+    }
 
-abbrev pub parameter_update : ParameterState → MaybeEvent → ParameterUpdate
+abbrev pub parameter_update : ParameterState → Option ParameterEvent → ParameterUpdate
 parameter_update s e = record { state = s; event = e }
 
 -- an event for the selected parameter, or none
-abbrev pub event_for : Selection → ParameterChange → MaybeEvent
-event_for Nothing change = NoEvent
-event_for (Selected p) change = Event (record { parameter = p; change = change })
+abbrev pub event_for : Option Parameter → ParameterChange → Option ParameterEvent
+event_for None change = None
+event_for (Some p) change = Some (record { parameter = p; change = change })
 
 abbrev pub entered : ParameterState → ParameterChange → ParameterUpdate
 entered s change = parameter_update s (event_for (selection_of s) change)
@@ -113,21 +114,17 @@ controlled s n v =
     when eqb n 38 then entered s (DataEntryLsb v) else
     when eqb n 96 then entered s Increment else
     when eqb n 97 then entered s Decrement else
-    parameter_update (number_stored s n v) NoEvent
+    parameter_update (number_stored s n v) None
 
 -- only control changes act (document 01)
 abbrev pub update_by_fields : ParameterState → ℕ → ℕ → ℕ → ParameterUpdate
-update_by_fields s opcode a b = when eqb opcode 0xB then controlled s a b else parameter_update s NoEvent
+update_by_fields s opcode a b = when eqb opcode 0xB then controlled s a b else parameter_update s None
 
 abbrev pub update_by_word : ParameterState → ℕ → ParameterUpdate
 update_by_word s w = update_by_fields s (opcode_of w) (first_of w) (second_of w)
 
 -- what `receive` answers, by document 01's numbers
-abbrev pub answered : Reply → Outcome MaybeEvent
-answered (reply.Received e) = given e
-answered reply.OutOfRange = out_of_range
-
-abbrev pub parameter_reply : ParameterState → ℕ → Outcome MaybeEvent
+abbrev pub parameter_reply : ParameterState → ℕ → Outcome (Option ParameterEvent)
 parameter_reply s w = when word_form w then given (update_by_word s w).event else out_of_range
 
 abbrev pub parameter_after : ParameterState → ℕ → ParameterState

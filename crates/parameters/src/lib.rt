@@ -1,25 +1,49 @@
 // The parameter receiver of one channel (parameters.rs).
 #![tactic(auto)]
 
-ghost use Rattle.std.specs.Prelude.{◌≡◌, ◌<◌, ◌-◌};
+ghost use Rattle.std.specs.Prelude.{◌≡◌};
 ghost use Rattle.ump.specs.Outcome.{answered};
-ghost use Rattle.parameters.specs.State.{new_state, number, with_rpn, with_nrpn, selects, selected_rpn, selected_nrpn, selection_of, nulled, rpn_switched, nrpn_switched, entered, number_stored, controlled, update_by_fields, parameter_reply, parameter_after};
+ghost use Rattle.parameters.specs.State.{new_state, number, number_switched, with_rpn, with_nrpn, selects, selection_of, nulled, rpn_switched, nrpn_switched, entered, number_stored, controlled, update_by_fields, parameter_reply, parameter_after};
 
 use parameter_event::{Parameter, ParameterChange, ParameterEvent};
 use ump::channel_voice1::{first_data, is_message, opcode, second_data};
 use ump::controller::Rpn;
+use ump::reply::OutOfRange;
 
-// Half of a number that was not received.
-const MISSING: u8 = 0x80;
-// Half of the null number 7F 7F, which selects no parameter.
-const NULL: u8 = 0x7F;
-
-// A parameter number: each half 0 to 127, or MISSING.
+// A parameter number: each half 0 to 127, or 0x80 where it was not received.
+// 0x80 stands in the place of None: it is a part of End, which is lent to firmware (bench_lent_c), byte for byte.
 #[repr(C)]
 #[derive(Clone, Copy)]
 pub struct Number {
     pub msb: u8,
     pub lsb: u8,
+}
+
+impl Number {
+    // Neither half was received.
+    const MISSING: Number = Number {
+        msb: 0x80,
+        lsb: 0x80,
+    };
+    // The null number 7F 7F, which selects no parameter.
+    const NULL: Number = Number {
+        msb: 0x7F,
+        lsb: 0x7F,
+    };
+
+    // Both halves were received, and the number is not null.
+    fn is_selecting(self) -> bool
+        ensures { result ≡ selects self.msb self.lsb }
+    {
+        self.msb < 0x80 && self.lsb < 0x80 && !(self.msb == 0x7F && self.lsb == 0x7F)
+    }
+
+    // The number of a kind whose reception is turned on or off. Going on from off, it waits again for both halves.
+    fn switched(self, was_on: bool, on: bool) -> Number
+        ensures { result ≡ number_switched self was_on on }
+    {
+        if on && !was_on { Number::MISSING } else { self }
+    }
 }
 
 // The parameter receiver of one channel: both numbers, the kind stored last, and the reception of each kind.
@@ -33,78 +57,18 @@ pub struct ParameterState {
     pub nrpn_on: bool,
 }
 
-// The parameter that a data entry acts on.
-#[derive(Clone, Copy)]
-pub enum Selection {
-    Nothing,
-    Selected(Parameter),
-}
-
-// At most one event.
-#[derive(Clone, Copy)]
-pub enum MaybeEvent {
-    NoEvent,
-    Event(ParameterEvent),
-}
-
 // What a message gave: the next state, and at most one event.
 #[derive(Clone, Copy)]
 pub struct ParameterUpdate {
     pub state: ParameterState,
-    pub event: MaybeEvent,
+    pub event: Option<ParameterEvent>,
 }
 
 // What `receive` answers.
 #[derive(Clone, Copy)]
-pub enum Reply {
-    Received(MaybeEvent),
-    OutOfRange,
-}
-
-#[derive(Clone, Copy)]
 pub struct Received {
     pub state: ParameterState,
-    pub reply: Reply,
-}
-
-// Both halves were received, and the number is not null.
-fn is_selecting(msb: u8, lsb: u8) -> bool
-    ensures { result ≡ selects msb lsb }
-{
-    if NULL < msb {
-        return false;
-    }
-    if NULL < lsb {
-        return false;
-    }
-    if msb != NULL {
-        return true;
-    }
-    lsb != NULL
-}
-
-fn select_rpn(on: bool, msb: u8, lsb: u8) -> Selection
-    ensures { result ≡ selected_rpn on msb lsb }
-{
-    if on {
-        if is_selecting(msb, lsb) {
-            return Selection::Selected(Parameter::Registered(Rpn::from_parts(msb, lsb)));
-        }
-        return Selection::Nothing;
-    }
-    Selection::Nothing
-}
-
-fn select_nrpn(on: bool, msb: u8, lsb: u8) -> Selection
-    ensures { result ≡ selected_nrpn on msb lsb }
-{
-    if on {
-        if is_selecting(msb, lsb) {
-            return Selection::Selected(Parameter::NonRegistered { msb, lsb });
-        }
-        return Selection::Nothing;
-    }
-    Selection::Nothing
+    pub reply: Result<Option<ParameterEvent>, OutOfRange>,
 }
 
 impl ParameterState {
@@ -112,13 +76,9 @@ impl ParameterState {
     pub fn new() -> ParameterState
         ensures { result ≡ new_state }
     {
-        let missing = Number {
-            msb: MISSING,
-            lsb: MISSING,
-        };
         ParameterState {
-            rpn: missing,
-            nrpn: missing,
+            rpn: Number::MISSING,
+            nrpn: Number::MISSING,
             nrpn_last: false,
             rpn_on: true,
             nrpn_on: false,
@@ -126,45 +86,47 @@ impl ParameterState {
     }
 
     // The parameter that a data entry acts on now.
-    pub fn selection(self) -> Selection
+    #[tactic(auto, unfolding(crate::specs::State::selection_of))]
+    pub fn selection(self) -> Option<Parameter>
         ensures { result ≡ selection_of self }
     {
         if self.nrpn_last {
-            let n = self.nrpn;
-            return select_nrpn(self.nrpn_on, n.msb, n.lsb);
+            let Number { msb, lsb } = self.nrpn;
+            return (self.nrpn_on && self.nrpn.is_selecting()).then_some(Parameter::NonRegistered {
+                msb,
+                lsb,
+            });
         }
-        let n = self.rpn;
-        select_rpn(self.rpn_on, n.msb, n.lsb)
+        let Number { msb, lsb } = self.rpn;
+        (self.rpn_on && self.rpn.is_selecting()).then(|| Parameter::Registered(Rpn::from_parts(
+            msb, lsb,
+        )))
     }
 
     // Both numbers become null.
     pub fn reset_all_controllers(self) -> ParameterState
         ensures { result ≡ nulled self }
     {
-        let null = Number {
-            msb: NULL,
-            lsb: NULL,
-        };
-        let mut s = self;
-        s.rpn = null;
-        s.nrpn = null;
-        s
+        ParameterState {
+            rpn: Number::NULL,
+            nrpn: Number::NULL,
+            ..self
+        }
     }
 
     // A data entry or a step: an event for the selected parameter.
     fn entry(self, change: ParameterChange) -> ParameterUpdate
         ensures { result ≡ entered self change }
     {
-        let s = self.selection();
-        let Selection::Selected(parameter) = s else {
+        let Some(parameter) = self.selection() else {
             return ParameterUpdate {
                 state: self,
-                event: MaybeEvent::NoEvent,
+                event: None,
             };
         };
         ParameterUpdate {
             state: self,
-            event: MaybeEvent::Event(ParameterEvent { parameter, change }),
+            event: Some(ParameterEvent { parameter, change }),
         }
     }
 
@@ -172,68 +134,53 @@ impl ParameterState {
     fn with_rpn(self, msb: u8, lsb: u8) -> ParameterState
         ensures { result ≡ with_rpn self (number msb lsb) }
     {
-        let n = Number { msb, lsb };
-        let mut s = self;
-        s.rpn = n;
-        s.nrpn_last = false;
-        s
+        ParameterState {
+            rpn: Number { msb, lsb },
+            nrpn_last: false,
+            ..self
+        }
     }
 
     // A non-registered number is stored.
     fn with_nrpn(self, msb: u8, lsb: u8) -> ParameterState
         ensures { result ≡ with_nrpn self (number msb lsb) }
     {
-        let n = Number { msb, lsb };
-        let mut s = self;
-        s.nrpn = n;
-        s.nrpn_last = true;
-        s
+        ParameterState {
+            nrpn: Number { msb, lsb },
+            nrpn_last: true,
+            ..self
+        }
     }
 
     // Controllers 98 to 101 store half a number, and 121 makes both numbers null.
+    #[tactic(auto, unfolding(crate::specs::State::number_stored))]
     fn store(self, index: u8, value: u8) -> ParameterState
         ensures { result ≡ number_stored self index value }
     {
-        let rpn = self.rpn;
-        let nrpn = self.nrpn;
-        if index == 101 {
-            return self.with_rpn(value, rpn.lsb);
+        match index {
+            101 => self.with_rpn(value, self.rpn.lsb),
+            100 => self.with_rpn(self.rpn.msb, value),
+            99 => self.with_nrpn(value, self.nrpn.lsb),
+            98 => self.with_nrpn(self.nrpn.msb, value),
+            121 => self.reset_all_controllers(),
+            _ => self,
         }
-        if index == 100 {
-            return self.with_rpn(rpn.msb, value);
-        }
-        if index == 99 {
-            return self.with_nrpn(value, nrpn.lsb);
-        }
-        if index == 98 {
-            return self.with_nrpn(nrpn.msb, value);
-        }
-        if index == 121 {
-            return self.reset_all_controllers();
-        }
-        self
     }
 
     // A control change, by its two data bytes.
+    #[tactic(auto, unfolding(crate::specs::State::controlled))]
     fn control(self, index: u8, value: u8) -> ParameterUpdate
         ensures { result ≡ controlled self index value }
     {
-        if index == 6 {
-            return self.entry(ParameterChange::DataEntryMsb(value));
-        }
-        if index == 38 {
-            return self.entry(ParameterChange::DataEntryLsb(value));
-        }
-        if index == 96 {
-            return self.entry(ParameterChange::Increment);
-        }
-        if index == 97 {
-            return self.entry(ParameterChange::Decrement);
-        }
-        let s = self.store(index, value);
-        ParameterUpdate {
-            state: s,
-            event: MaybeEvent::NoEvent,
+        match index {
+            6 => self.entry(ParameterChange::DataEntryMsb(value)),
+            38 => self.entry(ParameterChange::DataEntryLsb(value)),
+            96 => self.entry(ParameterChange::Increment),
+            97 => self.entry(ParameterChange::Decrement),
+            _ => ParameterUpdate {
+                state: self.store(index, value),
+                event: None,
+            },
         }
     }
 
@@ -246,7 +193,7 @@ impl ParameterState {
         }
         ParameterUpdate {
             state: self,
-            event: MaybeEvent::NoEvent,
+            event: None,
         }
     }
 
@@ -255,18 +202,20 @@ impl ParameterState {
         ensures reply { answered result.reply ≡ parameter_reply self word }
         ensures state { result.state ≡ parameter_after self word }
     {
-        if is_message(word) {
-            let h = self.receive_fields(opcode(word), first_data(word), second_data(word));
-            let s = h.state;
-            let e = h.event;
+        if !is_message(word) {
             return Received {
-                state: s,
-                reply: Reply::Received(e),
+                state: self,
+                reply: Err(OutOfRange),
             };
         }
+        let ParameterUpdate { state, event } = self.receive_fields(
+            opcode(word),
+            first_data(word),
+            second_data(word),
+        );
         Received {
-            state: self,
-            reply: Reply::OutOfRange,
+            state,
+            reply: Ok(event),
         }
     }
 
@@ -288,41 +237,21 @@ impl ParameterState {
     pub fn set_rpn_reception(self, on: bool) -> ParameterState
         ensures { result ≡ rpn_switched self on }
     {
-        let mut s = self;
-        if on {
-            if self.rpn_on {
-                return self;
-            }
-            let n = Number {
-                msb: MISSING,
-                lsb: MISSING,
-            };
-            s.rpn = n;
-            s.rpn_on = true;
-            return s;
+        ParameterState {
+            rpn: self.rpn.switched(self.rpn_on, on),
+            rpn_on: on,
+            ..self
         }
-        s.rpn_on = false;
-        s
     }
 
     // Turns NRPN reception on or off. Going on from off, it waits again for both halves of a number.
     pub fn set_nrpn_reception(self, on: bool) -> ParameterState
         ensures { result ≡ nrpn_switched self on }
     {
-        let mut s = self;
-        if on {
-            if self.nrpn_on {
-                return self;
-            }
-            let n = Number {
-                msb: MISSING,
-                lsb: MISSING,
-            };
-            s.nrpn = n;
-            s.nrpn_on = true;
-            return s;
+        ParameterState {
+            nrpn: self.nrpn.switched(self.nrpn_on, on),
+            nrpn_on: on,
+            ..self
         }
-        s.nrpn_on = false;
-        s
     }
 }
