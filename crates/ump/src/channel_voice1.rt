@@ -89,23 +89,23 @@ pub fn is_message(word: u32) -> bool
 }
 
 // The word of these parts.
-fn word_of(opcode: u8, group: u8, channel: u8, a: u8, b: u8) -> u32
-    requires { (opcode < 16) × (group < 16) × (channel < 16) × (a < 128) × (b < 128) }
-    ensures { result ≡ word_of group opcode channel a b }
+fn word_of(opcode: u8, group: Group, channel: Channel, a: u8, b: u8) -> u32
+    requires { (opcode < 16) × (a < 128) × (b < 128) }
+    ensures { result ≡ word_of (packet_value group.0) opcode (packet_value channel.0) a b }
 {
     (b as u32)
         | ((a as u32) << 8)
-        | ((channel as u32) << 16)
+        | ((channel.index() as u32) << 16)
         | ((opcode as u32) << 20)
-        | ((group as u32) << 24)
+        | ((group.index() as u32) << 24)
         | 0x2000_0000
 }
 
-// A message of two data bytes.
+// A message of two data bytes. Its opcode is a constant of the caller, so that a type for it would say no more than the `requires`.
 #[tactic(auto, unfolding(crate::specs::Word::two_data_word))]
-fn two_data(opcode: u8, group: u8, channel: u8, a: u8, b: u8) -> Result<u32, OutOfRange>
-    requires { (opcode < 16) × (group < 16) × (channel < 16) }
-    ensures { answered result ≡ two_data_word opcode group channel a b }
+fn two_data(opcode: u8, group: Group, channel: Channel, a: u8, b: u8) -> Result<u32, OutOfRange>
+    requires { opcode < 16 }
+    ensures { answered result ≡ two_data_word opcode (packet_value group.0) (packet_value channel.0) a b }
 {
     if 0x7F < a || 0x7F < b {
         return Err(OutOfRange);
@@ -115,9 +115,9 @@ fn two_data(opcode: u8, group: u8, channel: u8, a: u8, b: u8) -> Result<u32, Out
 
 // A message of one data byte.
 #[tactic(auto, unfolding(crate::specs::Word::one_data_word))]
-fn one_data(opcode: u8, group: u8, channel: u8, a: u8) -> Result<u32, OutOfRange>
-    requires { (opcode < 16) × (group < 16) × (channel < 16) }
-    ensures { answered result ≡ one_data_word opcode group channel a }
+fn one_data(opcode: u8, group: Group, channel: Channel, a: u8) -> Result<u32, OutOfRange>
+    requires { opcode < 16 }
+    ensures { answered result ≡ one_data_word opcode (packet_value group.0) (packet_value channel.0) a }
 {
     if 0x7F < a {
         return Err(OutOfRange);
@@ -125,20 +125,7 @@ fn one_data(opcode: u8, group: u8, channel: u8, a: u8) -> Result<u32, OutOfRange
     Ok(word_of(opcode, group, channel, a, 0))
 }
 
-// A Pitch Bend of a group and a channel below 16.
-#[tactic(auto, unfolding(crate::specs::Word::bend_word))]
-fn bend(group: u8, channel: u8, value: u16) -> Result<u32, OutOfRange>
-    requires { (group < 16) × (channel < 16) }
-    ensures { answered result ≡ bend_word group channel value }
-{
-    if 0x3FFF < value {
-        return Err(OutOfRange);
-    }
-    let lsb = (value % 128) as u8;
-    let msb = (value / 128) as u8;
-    Ok(word_of(0xE, group, channel, lsb, msb))
-}
-
+// The four messages have the source's names; each is one call of what they share.
 // Note On, opcode 9.
 #[derive(Clone, Copy)]
 pub struct Midi1NoteOn {}
@@ -153,7 +140,7 @@ impl Midi1NoteOn {
     ) -> Result<u32, OutOfRange>
         ensures { answered result ≡ two_data_word 0x9 (packet_value group.0) (packet_value channel.0) note velocity }
     {
-        two_data(0x9, group.into_bits(), channel.into_bits(), note, velocity)
+        two_data(0x9, group, channel, note, velocity)
     }
 }
 
@@ -166,7 +153,7 @@ impl Midi1ControlChange {
     pub fn try_new(group: Group, channel: Channel, index: u8, data: u8) -> Result<u32, OutOfRange>
         ensures { answered result ≡ two_data_word 0xB (packet_value group.0) (packet_value channel.0) index «data» }
     {
-        two_data(0xB, group.into_bits(), channel.into_bits(), index, data)
+        two_data(0xB, group, channel, index, data)
     }
 }
 
@@ -179,7 +166,7 @@ impl Midi1ChannelPressure {
     pub fn try_new(group: Group, channel: Channel, pressure: u8) -> Result<u32, OutOfRange>
         ensures { answered result ≡ one_data_word 0xD (packet_value group.0) (packet_value channel.0) pressure }
     {
-        one_data(0xD, group.into_bits(), channel.into_bits(), pressure)
+        one_data(0xD, group, channel, pressure)
     }
 }
 
@@ -189,10 +176,16 @@ pub struct Midi1PitchBend {}
 
 impl Midi1PitchBend {
     // Refused for a value above 16,383 (centre 8,192).
+    #[tactic(auto, unfolding(crate::specs::Word::bend_word))]
     pub fn try_new(group: Group, channel: Channel, value: u16) -> Result<u32, OutOfRange>
         ensures { answered result ≡ bend_word (packet_value group.0) (packet_value channel.0) value }
     {
-        bend(group.into_bits(), channel.into_bits(), value)
+        if 0x3FFF < value {
+            return Err(OutOfRange);
+        }
+        let lsb = (value % 128) as u8;
+        let msb = (value / 128) as u8;
+        Ok(word_of(0xE, group, channel, lsb, msb))
     }
 }
 
@@ -200,5 +193,11 @@ impl Midi1PitchBend {
 pub fn control_change(channel: u8, controller: u8, value: u8) -> Result<u32, OutOfRange>
     ensures { answered result ≡ control_change channel controller value }
 {
-    two_data(0xB, 0, channel % 16, controller, value)
+    two_data(
+        0xB,
+        Group::from_bits(0),
+        Channel::from_bits(channel),
+        controller,
+        value,
+    )
 }
