@@ -1,20 +1,20 @@
 // A change of a parameter, and the value after it (parameters.rs).
 #![tactic(auto)]
 
-ghost use Rattle.std.specs.Prelude.{◌≡◌, ℕ, ◌<◌, ◌^◌, ◌-◌};
+ghost use Rattle.std.specs.Prelude.{◌≡◌, ℕ, ◌<◌, ◌≤◌, ◌^◌, ◌-◌};
 ghost use Rattle.parameter_event.specs.Apply.{saturating_step, step_cents, step_upper, step_numbered, step_parameter, applied};
 
 use ump::controller::Rpn;
 
 // A parameter: a Registered or a Non-Registered Parameter Number.
-#[derive(Clone, Copy)]
+#[derive(Clone, Copy, Debug, PartialEq, Eq)]
 pub enum Parameter {
     Registered(Rpn),
     NonRegistered { msb: u8, lsb: u8 },
 }
 
 // One change of the selected parameter.
-#[derive(Clone, Copy)]
+#[derive(Clone, Copy, Debug, PartialEq, Eq)]
 pub enum ParameterChange {
     // Data Entry MSB (controller 6), 7 bits.
     DataEntryMsb(u8),
@@ -27,7 +27,7 @@ pub enum ParameterChange {
 }
 
 // What a Data Entry, Data Increment or Data Decrement gives.
-#[derive(Clone, Copy)]
+#[derive(Clone, Copy, Debug, PartialEq, Eq)]
 pub struct ParameterEvent {
     pub parameter: Parameter,
     pub change: ParameterChange,
@@ -35,41 +35,29 @@ pub struct ParameterEvent {
 
 // One step up or down of a field of any width, which stops at 0 and at `top`, its highest value.
 fn saturating_step(value: u16, top: u16, up: bool) -> u16
-    ensures { (width : ℕ) → top ≡ 2 ^ width - 1 → result ≡ saturating_step width up value }
+    ensures steps { (width : ℕ) → top ≡ 2 ^ width - 1 → result ≡ saturating_step width up value }
+    ensures within { value ≤ top → result ≤ top }
 {
-    if up {
-        if value < top {
-            return value + 1;
-        }
-        return value;
+    if !up {
+        return value.saturating_sub(1);
     }
-    if 0 < value {
-        return value - 1;
-    }
-    value
+    if value < top { value + 1 } else { value }
 }
 
 // A step of Pitch Bend Sensitivity, in cents with a carry at 100.
+#[tactic(auto, unfolding(crate::specs::Apply::step_cents))]
 fn step_cents(msb: u16, lsb: u16, up: bool) -> u16
     requires { (msb < 2 ^ 7) × (lsb < 2 ^ 7) }
     ensures { result ≡ step_cents msb lsb up }
 {
-    if up {
-        if lsb < 99 {
-            return msb * 128 + lsb + 1;
-        }
-        if msb < 127 {
-            return (msb + 1) * 128;
-        }
-        return msb * 128 + lsb;
+    let value = msb * 128 + lsb;
+    match (up, msb, lsb) {
+        (true, _, 0..99) => value + 1,
+        (true, 0..127, _) => (msb + 1) * 128,
+        (false, _, 1..) => value - 1,
+        (false, 1.., _) => (msb - 1) * 128 + 99,
+        _ => value,
     }
-    if 0 < lsb {
-        return msb * 128 + lsb - 1;
-    }
-    if 0 < msb {
-        return (msb - 1) * 128 + 99;
-    }
-    msb * 128 + lsb
 }
 
 // A step of the upper half.
@@ -88,23 +76,16 @@ fn step14(value: u16, up: bool) -> u16
 }
 
 // One step of a registered parameter, by its number.
+#[tactic(auto, unfolding(crate::specs::Apply::step_numbered))]
 fn step_numbered(msb: u8, lsb: u8, value: u16, up: bool) -> u16
     requires { value < 2 ^ 14 }
     ensures { result ≡ step_numbered msb lsb up value }
 {
-    if msb != 0 {
-        return step14(value, up);
+    match (msb, lsb) {
+        (0, 0) => step_cents(value / 128, value % 128, up),
+        (0, 2..=4) => step_upper(value / 128, value % 128, up),
+        _ => step14(value, up),
     }
-    if lsb == 0 {
-        return step_cents(value / 128, value % 128, up);
-    }
-    if lsb < 2 {
-        return step14(value, up);
-    }
-    if 4 < lsb {
-        return step14(value, up);
-    }
-    step_upper(value / 128, value % 128, up)
 }
 
 // One RP-018 step of a 14-bit value.
@@ -117,7 +98,7 @@ fn step(parameter: Parameter, value: u16, up: bool) -> u16
             let n = rpn.into_parts();
             step_numbered(n.msb, n.lsb, value, up)
         }
-        Parameter::NonRegistered { msb: _, lsb: _ } => step14(value, up),
+        Parameter::NonRegistered { .. } => step14(value, up),
     }
 }
 
@@ -126,8 +107,7 @@ impl ParameterEvent {
     pub fn apply(self, value: u16) -> u16
         ensures { result ≡ applied self value }
     {
-        let parameter = self.parameter;
-        let change = self.change;
+        let ParameterEvent { parameter, change } = self;
         let v = value % 0x4000;
         match change {
             ParameterChange::DataEntryMsb(msb) => (msb % 128) as u16 * 128,
