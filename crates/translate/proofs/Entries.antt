@@ -15,10 +15,9 @@ use Rattle.ump.proofs.Cases.{by-test, of-both}
 use Rattle.translate_state.specs.declared.ChannelState.{ChannelState}
 use Rattle.translate_state.specs.declared.Midi1ToMidi2Group.{Midi1ToMidi2Group}
 use Rattle.translate_state.specs.State.{held, channel_state, empty_state, new_record, pending_in, null_after_in, pending_sent, selected, mcm_selected, entry_held, completed, controllers_reset, state_on, flags_allowed}
-use Rattle.translate.specs.declared.Translation.{Translation}
-use Rattle.translate.specs.declared.Translation.TheVariants.{Words, Nothing, OutOfRange}
+use Rattle.std.specs.Prelude.{Option, Some, None}
 use Rattle.translate.specs.declared.Stepped.{Stepped}
-use Rattle.translate.specs.Translate.{translation_read, first_word, controller_data, controller_numbered, controller, pending_words, channel_step, entered_after, lsb_entered, passed_on, control_changed, message_translated, record_after, flushed_record}
+use Rattle.translate.specs.Translate.{word_pair, words_in, first_word, controller_data, controller_numbered, controller, pending_words, channel_step, entered_after, lsb_entered, passed_on, control_changed, message_translated, record_after, flushed_record}
 use Rattle.translate.specs.Lists.{translate_words, flush, translator_after_all, words_from, control, Formed}
 use Rattle.translate.specs.Rules.{record_after_all, control_words, registered_words, assignable_words, NullNumber, McmNumber, EntryRules, McmRules, NullRules}
 use Rattle.translate_state.proofs.Flags.{flags-lt}
@@ -63,19 +62,18 @@ kinds =
     and (λ a. record { kind = nrpn; is = refl })
     and (λ a. absurd (true≢false (sym a)))
 
-entered : (x : Translation) (g c : ℕ) (s : ChannelState) → mcm_selected s ≡ false → entered_after x g c s ≡ channel_step s x
+entered : (x : Option (List ℕ)) (g c : ℕ) (s : ChannelState) → mcm_selected s ≡ false → entered_after x g c s ≡ channel_step s x
 unfolding entered_after
-entered (Words a b) g c s e = refl
-entered Nothing g c s e = rw e
-entered OutOfRange g c s e = refl
+entered (Some a) g c s e = refl
+entered None g c s e = rw e
 
 -- the numbers of a channel: registered, and non-registered
 module _ (rm rl nm nl : ℕ) where
   abbrev on : ℕ → ℕ → ℕ → ℕ → ChannelState
   on d bm bl f = channel_state rm rl nm nl d bm bl f
 
-  abbrev sent : Kind → ℕ → ℕ → ℕ → Translation
-  sent none g c v = Nothing
+  abbrev sent : Kind → ℕ → ℕ → ℕ → Option (List ℕ)
+  sent none g c v = None
   sent rpn g c v = controller_numbered g c 0x2 rm rl v
   sent nrpn g c v = controller_numbered g c 0x3 nm nl v
 
@@ -89,7 +87,7 @@ null-is-no-mcm none = refl
 null-is-no-mcm rpn = refl
 null-is-no-mcm nrpn = refl
 
-null-sends-none : (k : Kind) (g c v : ℕ) → sent 128 128 128 128 k g c v ≡ Nothing
+null-sends-none : (k : Kind) (g c v : ℕ) → sent 128 128 128 128 k g c v ≡ None
 unfolding controller_numbered
 null-sends-none none g c v = refl
 null-sends-none rpn g c v = refl
@@ -103,7 +101,7 @@ module _ (rm rl nm nl bm bl : ℕ) where
   abbrev at-flags : ℕ → ℕ → ChannelState
   at-flags d f = on rm rl nm nl d bm bl f
 
-  abbrev words_of : Kind → ℕ → ℕ → ℕ → Translation
+  abbrev words_of : Kind → ℕ → ℕ → ℕ → Option (List ℕ)
   words_of = sent rm rl nm nl
 
   mcm-of : (k : Kind) (d : ℕ) → mcm_selected (at-flags d (code-pending k)) ≡ mcm_of rm rl nm nl k
@@ -126,7 +124,7 @@ module _ (rm rl nm nl bm bl : ℕ) where
     reset-words rpn x = rw (some x, back x, add-zero)
     reset-words nrpn x = rw (some x, back x, add-zero)
 
-    none-pending : (k : Kind) (d : ℕ) → pending_words g c (at-flags d (code k)) ≡ Nothing
+    none-pending : (k : Kind) (d : ℕ) → pending_words g c (at-flags d (code k)) ≡ None
     unfolding pending_words
     none-pending none d = refl
     none-pending rpn d = refl
@@ -159,10 +157,10 @@ module _ (rm rl nm nl bm bl : ℕ) where
   module _ (g c : ℕ) where
     -- 6 with nothing pending, with an entry pending, and with a reset noted
     first-6 : (k : Kind) (d x : ℕ) → x < 128 → mcm_of rm rl nm nl k ≡ false
-        → control_changed g c (at-flags d (code k)) 6 x ≡ channel_step (at-flags (x + 1) (code-pending k)) Nothing
+        → control_changed g c (at-flags d (code k)) 6 x ≡ channel_step (at-flags (x + 1) (code-pending k)) None
     unfolding control_changed
     first-6 k d x h m =
-        rw (none-pending g c k d, none-sent k d, entry-held k d x h) (entered Nothing g c _ (mcm-of k (x + 1) ∙ m))
+        rw (none-pending g c k d, none-sent k d, entry-held k d x h) (entered None g c _ (mcm-of k (x + 1) ∙ m))
 
     next-6 : (k : Kind) (x z : ℕ) → z < 128 → mcm_of rm rl nm nl k ≡ false
         → control_changed g c (at-flags (x + 1) (code-pending k)) 6 z ≡ channel_step (at-flags (z + 1) (code-pending k)) (words_of k g c (x * 2 ^ 7))
@@ -185,7 +183,7 @@ module _ (rm rl nm nl bm bl : ℕ) where
     next-38 rpn x y = rw (some x, back x)
     next-38 nrpn x y = rw (some x, back x)
 
-    none-38 : (k : Kind) (y : ℕ) → control_changed g c (at-flags 0 (code k)) 38 y ≡ channel_step (at-flags 0 (code k)) Nothing
+    none-38 : (k : Kind) (y : ℕ) → control_changed g c (at-flags 0 (code k)) 38 y ≡ channel_step (at-flags 0 (code k)) None
     unfolding control_changed lsb_entered
     none-38 none y = refl
     none-38 rpn y = refl
@@ -231,7 +229,7 @@ number g c s n v l h =
 -- with nothing pending
 module _ (g c rm rl nm nl d bm bl v : ℕ) (k : Kind) where
   half-after : (n : ℕ) → 98 ≤ n → n ≤ 101 → (t : ChannelState) → selected (on rm rl nm nl d bm bl (code k)) n v ≡ t
-      → control_changed g c (on rm rl nm nl d bm bl (code k)) n v ≡ channel_step t Nothing
+      → control_changed g c (on rm rl nm nl d bm bl (code k)) n v ≡ channel_step t None
   half-after n l u t e =
       number g c _ n v l u ∙ rw (none-sent rm rl nm nl bm bl k d, none-pending rm rl nm nl bm bl g c k d, e)
 
@@ -249,11 +247,11 @@ all-formed r f ws = always-formed r f (map translate_words ws)
 
 -- a number that gives nothing
 module _ (g c : ℕ) (hg : g < 16) (hc : c < 16) (k : Kind) (rm rl nm nl bm bl : ℕ) (no-mcm : mcm_of rm rl nm nl k ≡ false)
-    (Gives-none : (v : ℕ) → sent rm rl nm nl k g c v ≡ Nothing)
+    (Gives-none : (v : ℕ) → sent rm rl nm nl k g c v ≡ None)
   where
     silent-38 : (z w : ℕ) → w < 128 → Gives c (on rm rl nm nl (z + 1) bm bl (code-pending k)) (control g c 38 w ∷ []) [] (on rm rl nm nl (z + 1) bm bl (code k))
     silent-38 z w h =
-        said-last g c hg hc 38 w (omega arith) h _ [] (first-38 rm rl nm nl bm bl g c k z w) (ap translation_read (Gives-none (z * 2 ^ 7 + w))) (ended c _)
+        said-last g c hg hc 38 w (omega arith) h _ [] (first-38 rm rl nm nl bm bl g c k z w) (ap words_in (Gives-none (z * 2 ^ 7 + w))) (ended c _)
 
     silent-entry : (d z w : ℕ) → z < 128 → w < 128
         → Gives c (on rm rl nm nl d bm bl (code k)) (control g c 6 z ∷ control g c 38 w ∷ []) [] (on rm rl nm nl (z + 1) bm bl (code k))
@@ -284,8 +282,8 @@ module _ (g c x y : ℕ) (hg : g < 16) (hc : c < 16) (hx : x < 128) (hy : y < 12
     abbrev FromHalf : ℕ → Type 0
     FromHalf n = words_from new_record (control g c n v ∷ entry-6-38) ≡ []
 
-    half_of : (n : ℕ) → n < 128 → (k : Kind) (rm rl nm nl : ℕ) → control_changed g c empty_state n v ≡ channel_step (on rm rl nm nl 0 0 0 (code k)) Nothing
-        → mcm_of rm rl nm nl k ≡ false → ((u : ℕ) → sent rm rl nm nl k g c u ≡ Nothing) → FromHalf n
+    half_of : (n : ℕ) → n < 128 → (k : Kind) (rm rl nm nl : ℕ) → control_changed g c empty_state n v ≡ channel_step (on rm rl nm nl 0 0 0 (code k)) None
+        → mcm_of rm rl nm nl k ≡ false → ((u : ℕ) → sent rm rl nm nl k g c u ≡ None) → FromHalf n
     half_of n hn k rm rl nm nl e no-mcm Gives-none =
         from-new (silent g c hg hc n v hn hv e (silent-entry g c hg hc k rm rl nm nl 0 0 no-mcm Gives-none 0 x y hx hy))
 
@@ -305,10 +303,10 @@ module _ (g c x y : ℕ) (hg : g < 16) (hc : c < 16) (hx : x < 128) (hy : y < 12
 
 -- a number that a second message completes, and its entries
 module _ (g c : ℕ) (hg : g < 16) (hc : c < 16) (k : Kind) (a1 a2 a3 a4 rm rl nm nl n2 v2 : ℕ) (hn : n2 < 128) (hv : v2 < 128)
-    (select : (d bm bl : ℕ) → control_changed g c (on a1 a2 a3 a4 d bm bl (code k)) n2 v2 ≡ channel_step (on rm rl nm nl 0 bm bl (code k)) Nothing)
+    (select : (d bm bl : ℕ) → control_changed g c (on a1 a2 a3 a4 d bm bl (code k)) n2 v2 ≡ channel_step (on rm rl nm nl 0 bm bl (code k)) None)
     (no-mcm : mcm_of rm rl nm nl k ≡ false)
     (entry : ℕ → ℕ → List ℕ)
-    (read : (h v : ℕ) → translation_read (sent rm rl nm nl k h c v) ≡ given (entry h v))
+    (read : (h v : ℕ) → words_in (sent rm rl nm nl k h c v) ≡ entry h v)
   where
     abbrev waiting : ℕ → ℕ → ℕ → ℕ → ChannelState
     waiting x bm bl f = on rm rl nm nl (x + 1) bm bl f
@@ -319,11 +317,11 @@ module _ (g c : ℕ) (hg : g < 16) (hc : c < 16) (k : Kind) (a1 a2 a3 a4 rm rl n
         silent g c hg hc n2 v2 hn hv (select 0 bm bl)
         (silent g c hg hc 6 x (omega arith) h (first-6 rm rl nm nl bm bl g c k 0 x h no-mcm) rest)
 
-    read-pending : (bm bl h x : ℕ) → translation_read (pending_words h c (waiting x bm bl (code-pending k))) ≡ given (entry h (x * 2 ^ 7))
-    read-pending bm bl h x = ap translation_read (pending-words rm rl nm nl bm bl h c k x) ∙ read h (x * 2 ^ 7)
+    read-pending : (bm bl h x : ℕ) → words_in (pending_words h c (waiting x bm bl (code-pending k))) ≡ entry h (x * 2 ^ 7)
+    read-pending bm bl h x = ap words_in (pending-words rm rl nm nl bm bl h c k x) ∙ read h (x * 2 ^ 7)
 
-    read-reset : (bm bl h x : ℕ) → translation_read (pending_words h c (waiting x bm bl (code-reset k))) ≡ given (entry h (x * 2 ^ 7))
-    read-reset bm bl h x = ap translation_read (reset-words rm rl nm nl bm bl h c k x) ∙ read h (x * 2 ^ 7)
+    read-reset : (bm bl h x : ℕ) → words_in (pending_words h c (waiting x bm bl (code-reset k))) ≡ entry h (x * 2 ^ 7)
+    read-reset bm bl h x = ap words_in (reset-words rm rl nm nl bm bl h c k x) ∙ read h (x * 2 ^ 7)
 
     -- 38 after 6
     complete : (bm bl x y : ℕ) → y < 128 → Gives c (waiting x bm bl (code-pending k)) (control g c 38 y ∷ []) (entry g (x * 2 ^ 7 + y)) (waiting x bm bl (code k))
@@ -399,7 +397,7 @@ module _ (g c : ℕ) (hg : g < 16) (hc : c < 16) (k : Kind) (a1 a2 a3 a4 rm rl n
                 λ h x hh hx.
                 let q = record_after_all r (first ∷ control g c n2 v2 ∷ control g c 6 x ∷ []) in
                 let e : state_on q c ≡ waiting x bm bl (code-pending k) = (hold bm bl x hx (ended c _)).leaves (record_after r first) after_first start in
-                flush-answer q (all-formed r f (first ∷ control g c n2 v2 ∷ control g c 6 x ∷ [])) h c hh hc ∙ rw e (read-pending bm bl h x);
+                flush-answer q (all-formed r f (first ∷ control g c n2 v2 ∷ control g c 6 x ∷ [])) h c hh hc ∙ rw e (ap given (read-pending bm bl h x));
             flushed_once =
                 λ h x hh hx.
                 let q = record_after_all r (first ∷ control g c n2 v2 ∷ control g c 6 x ∷ []) in
@@ -435,7 +433,7 @@ module _ (g c : ℕ) (hg : g < 16) (hc : c < 16) (k : Kind) (a1 a2 a3 a4 rm rl n
                 λ h x v hh hx hv.
                 let q = record_after_all r (first ∷ control g c n2 v2 ∷ control g c 6 x ∷ control g c 121 v ∷ []) in
                 let e : state_on q c ≡ waiting x bm bl (code-reset k) = (reset-after bm bl x v hx hv (ended c _)).leaves (record_after r first) after_first start in
-                flush-answer q (all-formed r f (first ∷ control g c n2 v2 ∷ control g c 6 x ∷ control g c 121 v ∷ [])) h c hh hc ∙ rw e (read-reset bm bl h x);
+                flush-answer q (all-formed r f (first ∷ control g c n2 v2 ∷ control g c 6 x ∷ control g c 121 v ∷ [])) h c hh hc ∙ rw e (ap given (read-reset bm bl h x));
             beside_bank =
                 λ b x a p y hb hx ha hp hy.
                 words-from
@@ -475,16 +473,16 @@ code-alone rpn = refl
 code-alone nrpn = refl
 
 module _ (g c rm rl nm nl d bm bl v : ℕ) (k : Kind) (h : v < 128) where
-  second-101 : control_changed g c (on rm rl nm nl d bm bl (code k)) 101 v ≡ channel_step (on (v + 1) rl nm nl 0 bm bl 1) Nothing
+  second-101 : control_changed g c (on rm rl nm nl d bm bl (code k)) 101 v ≡ channel_step (on (v + 1) rl nm nl 0 bm bl 1) None
   second-101 = half-after g c rm rl nm nl d bm bl v k 101 (omega arith) (omega arith) _ (selected-101 _ (code-alone k) v h)
 
-  second-100 : control_changed g c (on rm rl nm nl d bm bl (code k)) 100 v ≡ channel_step (on rm (v + 1) nm nl 0 bm bl 1) Nothing
+  second-100 : control_changed g c (on rm rl nm nl d bm bl (code k)) 100 v ≡ channel_step (on rm (v + 1) nm nl 0 bm bl 1) None
   second-100 = half-after g c rm rl nm nl d bm bl v k 100 (omega arith) (omega arith) _ (selected-100 _ (code-alone k) v h)
 
-  second-99 : control_changed g c (on rm rl nm nl d bm bl (code k)) 99 v ≡ channel_step (on rm rl (v + 1) nl 0 bm bl 2) Nothing
+  second-99 : control_changed g c (on rm rl nm nl d bm bl (code k)) 99 v ≡ channel_step (on rm rl (v + 1) nl 0 bm bl 2) None
   second-99 = half-after g c rm rl nm nl d bm bl v k 99 (omega arith) (omega arith) _ (selected-99 _ (code-alone k) v h)
 
-  second-98 : control_changed g c (on rm rl nm nl d bm bl (code k)) 98 v ≡ channel_step (on rm rl nm (v + 1) 0 bm bl 2) Nothing
+  second-98 : control_changed g c (on rm rl nm nl d bm bl (code k)) 98 v ≡ channel_step (on rm rl nm (v + 1) 0 bm bl 2) None
   second-98 = half-after g c rm rl nm nl d bm bl v k 98 (omega arith) (omega arith) _ (selected-98 _ (code-alone k) v h)
 
 -- a number that is not null, and one that is not 0/6
@@ -498,7 +496,7 @@ module _ (m l : ℕ) where
       (λ e. rw e)
 
   sent-of : (NullNumber m l → ⊥) → (h o c v : ℕ)
-      → controller_numbered h c o (m + 1) (l + 1) v ≡ Words (first_word h o c m l) (controller_data o l v)
+      → controller_numbered h c o (m + 1) (l + 1) v ≡ word_pair (first_word h o c m l) (controller_data o l v)
   unfolding controller_numbered
   sent-of n h o c v =
       rw (some m, some l, back m, back l)
@@ -649,7 +647,7 @@ module _ (r : Midi1ToMidi2Group) (f : Formed r) (g c : ℕ) (hg : g < 16) (hc : 
   unfolding control_changed pending_words pending_sent entry_held entered_after mcm_selected controller
   mcm-6 d x h = rw (mod-eq_of_lt h, some x, back x, add-zero)
 
-  mcm-read : (v : ℕ) → translation_read (controller_numbered g c 0x2 1 7 v) ≡ given (registered_words c 0 6 g v)
+  mcm-read : (v : ℕ) → words_in (controller_numbered g c 0x2 1 7 v) ≡ registered_words c 0 6 g v
   unfolding controller_numbered
   mcm-read v = refl
 
@@ -658,7 +656,7 @@ module _ (r : Midi1ToMidi2Group) (f : Formed r) (g c : ℕ) (hg : g < 16) (hc : 
   then-6 d x h rest = said g c hg hc 6 x (omega arith) h _ (registered_words c 0 6 g (x * 2 ^ 7)) (mcm-6 d x h) (mcm-read (x * 2 ^ 7)) rest
 
   module _ (first n2 v2 : ℕ) (hn : n2 < 128) (hv : v2 < 128) (s : ChannelState) (start : state_on (record_after r first) c ≡ s)
-      (select : control_changed g c s n2 v2 ≡ channel_step (mcm-state 0) Nothing)
+      (select : control_changed g c s n2 v2 ≡ channel_step (mcm-state 0) None)
     where
       mcm-list : {ws out : List ℕ} {t : ChannelState} → Gives c (mcm-state 0) ws out t → Gives c s (control g c n2 v2 ∷ ws) out t
       mcm-list rest = silent g c hg hc n2 v2 hn hv select rest

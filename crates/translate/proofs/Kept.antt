@@ -7,8 +7,7 @@ use Rattle.translate_state.specs.declared.ChannelState.{ChannelState}
 use Rattle.translate_state.specs.State.{null_after_in, pending_sent, mcm_selected, entry_held}
 use Rattle.translate_state.proofs.Allowed.{Allowed}
 use Rattle.translate_state.proofs.Kept.{sent-kept, reset-kept, selected-kept, entered-kept, completed-kept, msb-kept, lsb-kept, bank-sent-kept}
-use Rattle.translate.specs.declared.Translation.{Translation}
-use Rattle.translate.specs.declared.Translation.TheVariants.{Words, Nothing, OutOfRange}
+use Rattle.std.specs.Prelude.{List, Option, Some, None}
 use Rattle.translate.specs.declared.Stepped.{Stepped}
 use Rattle.translate.specs.Translate.{pending_words, entered_after, lsb_entered, control_changed, message_translated}
 
@@ -16,11 +15,10 @@ abbrev Kept : Stepped → Type 0
 Kept x = Allowed x.state
 
 module _ (g c : ℕ) (s : ChannelState) (a : Allowed s) where
-  after_kept : (out : Translation) → Kept (entered_after out g c s)
+  after_kept : (out : Option (List ℕ)) → Kept (entered_after out g c s)
   unfolding entered_after
-  after_kept (Words x y) = a
-  after_kept Nothing = of-both Kept (mcm_selected s) (sent-kept s a) a
-  after_kept OutOfRange = a
+  after_kept (Some x) = a
+  after_kept None = of-both Kept (mcm_selected s) (sent-kept s a) a
 
   lsb-entered-kept : (v : ℕ) → Kept (lsb_entered g c s v)
   unfolding lsb_entered

@@ -1,5 +1,6 @@
 -- Laws that proofs of this crate and of those above it cite.
 pub mod Each
+pub mod Given
 pub mod Refused
 pub mod Kept
 pub mod Always

@@ -16,10 +16,10 @@ use Rattle.ump.proofs.Words.{PartsFit, type-of-word, bit-15-of-word, bit-7-of-wo
 use Rattle.translate_state.specs.declared.ChannelState.{ChannelState}
 use Rattle.translate_state.specs.declared.Midi1ToMidi2Group.{Midi1ToMidi2Group}
 use Rattle.translate_state.specs.State.{held, kind_in, pending_in, null_after_in, empty_state, state_on, record_allowed, pending_sent, mcm_selected, entry_held, controllers_reset, bank_sent, with_bank}
-use Rattle.translate.specs.declared.Translation.{Translation}
-use Rattle.translate.specs.declared.Translation.TheVariants.{Words, Nothing, OutOfRange}
+use Rattle.std.specs.Prelude.{List, Option, Some, None}
+use Rattle.ump.specs.Outcome.{given}
 use Rattle.translate.specs.declared.Stepped.{Stepped}
-use Rattle.translate.specs.Translate.{translation_read, first_word, controller_numbered, controller, pending_words, channel_step, entered_after, lsb_entered, passed_on, control_changed, program_words, message_translated, with_state, record_after, flushed_record}
+use Rattle.translate.specs.Translate.{word_pair, words_in, first_word, controller_numbered, controller, pending_words, channel_step, entered_after, lsb_entered, passed_on, control_changed, program_words, message_translated, with_state, record_after, flushed_record}
 use Rattle.translate.specs.Lists.{translate_words, Formed}
 use Rattle.translate.specs.Rules.{program_change, PassesAs, held_controller, control_words, PassingRules, BankRules}
 use Rattle.translate.proofs.Always.{on-other, after-formed}
@@ -57,9 +57,9 @@ module _ (r : Midi1ToMidi2Group) (f : Formed r) where
   same c = ap (λ l. record { state = l }) (set-get_or r.state c empty_state)
 
   module _ (g c : ℕ) (hg : g < 16) (hc : c < 16) where
-    passes : (o a b : ℕ) → Fits g o c a b → (x y : ℕ) → message_translated g c (state_on r c) o a b ≡ channel_step (state_on r c) (Words x y) → PassesAs r (word_of g o c a b) x y
+    passes : (o a b : ℕ) → Fits g o c a b → (x y : ℕ) → message_translated g c (state_on r c) o a b ≡ channel_step (state_on r c) (word_pair x y) → PassesAs r (word_of g o c a b) x y
     passes o a b m x y e = (
-      answer-of r f g o c a b m ∙ ap (λ q. translation_read q.reply) e,
+      answer-of r f g o c a b m ∙ ap (λ q. given (words_in q.reply)) e,
       record_of r f g o c a b m ∙ ap (λ q. with_state r c q.state) e ∙ same c,
     )
 
@@ -75,7 +75,7 @@ module _ (r : Midi1ToMidi2Group) (f : Formed r) where
           pitch_bend_message = λ l m hl hm. passes 0xE l m (fits-E g c l m hg hc hl hm) _ _ refl;
           controllers =
               λ n v hn hv not-held.
-              answer-of r f g 0xB c n v (fits-B g c n v hg hc hn hv) ∙ ap (λ q. translation_read q.reply) (passed g c (state_on r c) n v not-held);
+              answer-of r f g 0xB c n v (fits-B g c n v hg hc hn hv) ∙ ap (λ q. given (words_in q.reply)) (passed g c (state_on r c) n v not-held);
           controllers_hold_nothing =
               λ n v hn hv not-held other.
               record_of r f g 0xB c n v (fits-B g c n v hg hc hn hv)
@@ -93,24 +93,24 @@ back x = omega arith
 -- the bank
 module _ (g c : ℕ) (s : ChannelState) where
   -- a program change with a bank, a held byte being the value and 1 added
-  pub with-bank : (p m l : ℕ) → message_translated g c (with_bank s (m + 1) (l + 1)) 0xC p 0 ≡ channel_step (bank_sent s) (Words (first_word g 0xC c 0 1) (p * 2 ^ 24 + (m * 2 ^ 8 + l)))
+  pub with-bank : (p m l : ℕ) → message_translated g c (with_bank s (m + 1) (l + 1)) 0xC p 0 ≡ channel_step (bank_sent s) (word_pair (first_word g 0xC c 0 1) (p * 2 ^ 24 + (m * 2 ^ 8 + l)))
   unfolding message_translated program_words
   with-bank p m l = rw (some m, back m, back l)
 
   -- with an MSB alone, which sets the LSB to 0
-  with-msb : (p m : ℕ) → message_translated g c (with_bank s (m + 1) 1) 0xC p 0 ≡ channel_step (bank_sent s) (Words (first_word g 0xC c 0 1) (p * 2 ^ 24 + m * 2 ^ 8))
+  with-msb : (p m : ℕ) → message_translated g c (with_bank s (m + 1) 1) 0xC p 0 ≡ channel_step (bank_sent s) (word_pair (first_word g 0xC c 0 1) (p * 2 ^ 24 + m * 2 ^ 8))
   with-msb p m = with-bank p m 0 ∙ rw (add-zero (m * 2 ^ 8))
 
   -- with an LSB alone
-  with-lsb : (p l : ℕ) → message_translated g c (with_bank s 0 (l + 1)) 0xC p 0 ≡ channel_step (bank_sent s) (Words (first_word g 0xC c 0 1) (p * 2 ^ 24 + l))
+  with-lsb : (p l : ℕ) → message_translated g c (with_bank s 0 (l + 1)) 0xC p 0 ≡ channel_step (bank_sent s) (word_pair (first_word g 0xC c 0 1) (p * 2 ^ 24 + l))
   unfolding message_translated program_words
   with-lsb p l = rw (some l, back l, zero-add l)
 
-  pub held-0 : (m : ℕ) → m < 128 → control_changed g c s 0 m ≡ channel_step (with_bank s (m + 1) 1) Nothing
+  pub held-0 : (m : ℕ) → m < 128 → control_changed g c s 0 m ≡ channel_step (with_bank s (m + 1) 1) None
   unfolding control_changed
   held-0 m h = rw (mod-eq_of_lt h)
 
-  pub held-32 : (l : ℕ) → l < 128 → control_changed g c s 32 l ≡ channel_step (with_bank s s.bank_msb (l + 1)) Nothing
+  pub held-32 : (l : ℕ) → l < 128 → control_changed g c s 32 l ≡ channel_step (with_bank s s.bank_msb (l + 1)) None
   unfolding control_changed
   held-32 l h = rw (mod-eq_of_lt h)
 
@@ -174,12 +174,11 @@ alike : {A : Type 0} (R : A → A → Type 0) (b : Bool) {x y z w : A} → R x z
 alike R true p q = p
 alike R false p q = q
 
-abbrev is_nothing : Translation → Bool
-is_nothing (Words a b) = false
-is_nothing Nothing = true
-is_nothing OutOfRange = false
+abbrev is_nothing : Option (List ℕ) → Bool
+is_nothing (Some a) = false
+is_nothing None = true
 
-abbrev SameAnswer : Translation → Translation → Type 0
+abbrev SameAnswer : Option (List ℕ) → Option (List ℕ) → Type 0
 SameAnswer x y = is_nothing x ≡ is_nothing y
 
 abbrev SameState : Stepped → Stepped → Type 0
@@ -202,17 +201,12 @@ module _ (g h c : ℕ) where
       (alike SameAnswer (eqb (kind_in s.flags) 2) (same-numbered 0x3 _ _ _) refl)))
       refl
 
-  same-entered : (x y : Translation) (s : ChannelState) → SameAnswer x y → SameState (entered_after x g c s) (entered_after y h c s)
+  same-entered : (x y : Option (List ℕ)) (s : ChannelState) → SameAnswer x y → SameState (entered_after x g c s) (entered_after y h c s)
   unfolding entered_after
-  same-entered (Words a b) (Words d e) s i = refl
-  same-entered (Words a b) Nothing s i = absurd (true≢false (sym i))
-  same-entered (Words a b) OutOfRange s i = refl
-  same-entered Nothing (Words d e) s i = absurd (true≢false i)
-  same-entered Nothing Nothing s i = alike SameState (mcm_selected s) refl refl
-  same-entered Nothing OutOfRange s i = absurd (true≢false i)
-  same-entered OutOfRange (Words d e) s i = refl
-  same-entered OutOfRange Nothing s i = absurd (true≢false (sym i))
-  same-entered OutOfRange OutOfRange s i = refl
+  same-entered (Some a) (Some d) s i = refl
+  same-entered (Some a) None s i = absurd (true≢false (sym i))
+  same-entered None (Some d) s i = absurd (true≢false i)
+  same-entered None None s i = alike SameState (mcm_selected s) refl refl
 
   same-lsb : (s : ChannelState) (v : ℕ) → SameState (lsb_entered g c s v) (lsb_entered h c s v)
   unfolding lsb_entered

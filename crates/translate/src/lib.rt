@@ -2,10 +2,9 @@
 #![tactic(auto)]
 
 ghost use Rattle.std.specs.Prelude.{◌≡◌, ◌<◌, ◌≤◌, ◌^◌};
-ghost use Rattle.ump.specs.Outcome.{answered};
 ghost use Rattle.scale.specs.Scale.{widened, zero_extended};
 ghost use Rattle.translate_state.specs.State.{value_in, new_record};
-ghost use Rattle.translate.specs.Translate.{translation_read, given_or0, first_word, controller_data, controller_numbered, controller, joined_value, pending_words, channel_step, entered_after, msb_entered, lsb_entered, passed_on, control_changed, bank_words, program_words, note_words, message_translated, with_state, translation_of, record_after, flush_reply, flushed_record};
+ghost use Rattle.translate.specs.Translate.{translation_read, first_word, controller_data, controller_numbered, controller, joined_value, pending_words, channel_step, entered_after, msb_entered, lsb_entered, passed_on, control_changed, bank_words, program_words, note_words, message_translated, with_state, translation_of, record_after, flush_reply, flushed_record};
 ghost use Rattle.translate.specs.Lists.{translate_words, flush, TranslatorGives, ListContinues, Formed, ExactlyAccepted, OthersRefused, OthersMet};
 ghost use Rattle.translate.specs.Rules.{NoNumberRules, TranslatedByRules};
 
@@ -15,48 +14,32 @@ use channel::{
     HELD_NULL, bank_sent, complete, enter, hold_bank_lsb, hold_bank_msb, mcm, pending_sent,
     reset_controllers, select,
 };
-use scale::{Scaled, upscale, zero_extend_upscale};
+use scale::{upscale, zero_extend_upscale};
 use translate_state::{ChannelState, Midi1ToMidi2Group};
 use ump::channel_voice1::{channel, first_data, group, is_message, opcode, second_data};
+use ump::reply::OutOfRange;
 
-// What a message gives: the two words of a MIDI 2.0 message, or nothing.
-#[derive(Clone, Copy)]
-pub enum Translation {
-    Words(u32, u32),
-    Nothing,
-    OutOfRange,
-}
-
-// The record after a call, and its answer.
+// The record after a call, and its answer: the two words of a MIDI 2.0 message, or none.
 #[derive(Clone, Copy)]
 pub struct Translated {
     pub translator: Midi1ToMidi2Group,
-    pub reply: Translation,
+    pub reply: Result<Option<[u32; 2]>, OutOfRange>,
 }
 
 // A channel after a message, and what it gave.
 #[derive(Clone, Copy)]
 struct Stepped {
     state: ChannelState,
-    reply: Translation,
-}
-
-// The value that was given, and 0 where none was.
-fn value_of(scaled: Scaled) -> u32
-    ensures { result ≡ given_or0 (answered scaled) }
-{
-    match scaled {
-        Scaled::Value(x) => x,
-        Scaled::OutOfRange => 0,
-    }
+    reply: Option<[u32; 2]>,
 }
 
 // Widening of a value that is in range.
 fn up(value: u32, src_bits: u8, dst_bits: u8) -> u32
     requires { (1 ≤ src_bits) × (src_bits < dst_bits) × (dst_bits ≤ 32) × (value < 2 ^ src_bits) }
-    ensures { result ≡ widened src_bits dst_bits value }
+    ensures is { result ≡ widened src_bits dst_bits value }
+    ensures fits { result < 2 ^ dst_bits }
 {
-    value_of(upscale(value, src_bits, dst_bits))
+    upscale(value, src_bits, dst_bits).unwrap_or(0)
 }
 
 // Zero extension of 14 bits to 32.
@@ -64,7 +47,7 @@ fn zero_up(value: u32) -> u32
     requires { value < 2 ^ 14 }
     ensures { result ≡ zero_extended 14 32 value }
 {
-    value_of(zero_extend_upscale(value, 14, 32))
+    zero_extend_upscale(value, 14, 32).unwrap_or(0)
 }
 
 // The first word of a MIDI 2.0 channel voice message.
@@ -89,25 +72,25 @@ fn joined_value(msb: u8, lsb: u8) -> u32
 }
 
 // A message that passes on, its value of 7 bits widened to 32.
-fn passed_on(group: u8, channel: u8, opcode: u8, index: u8, value: u8) -> Translation
+fn passed_on(group: u8, channel: u8, opcode: u8, index: u8, value: u8) -> Option<[u32; 2]>
     requires { (group < 16) × (channel < 16) × (opcode < 16) × (value < 128) }
     ensures { result ≡ passed_on group channel opcode index value }
 {
-    Translation::Words(
+    Some([
         first_word(group, opcode, channel, index, 0),
         up(value as u32, 7, 32),
-    )
+    ])
 }
 
 // A note with a velocity of 16 bits.
-fn note_words(group: u8, channel: u8, opcode: u8, note: u8, velocity: u32) -> Translation
+fn note_words(group: u8, channel: u8, opcode: u8, note: u8, velocity: u32) -> Option<[u32; 2]>
     requires { (group < 16) × (channel < 16) × (opcode < 16) × (velocity < 2 ^ 16) }
     ensures { result ≡ note_words group channel opcode note velocity }
 {
-    Translation::Words(
+    Some([
         first_word(group, opcode, channel, note, 0),
         velocity * 0x1_0000,
-    )
+    ])
 }
 
 // The data of a Registered (opcode 2) or Assignable (opcode 3) Controller.
@@ -115,16 +98,14 @@ fn controller_data(opcode: u8, index: u8, value: u32) -> u32
     requires { value < 2 ^ 14 }
     ensures { result ≡ controller_data opcode index value }
 {
-    if opcode == 0x2 {
-        if index < 32 {
-            return zero_up(value);
-        }
-        return up(value, 14, 32);
+    if opcode == 0x2 && index < 32 {
+        return zero_up(value);
     }
     up(value, 14, 32)
 }
 
 // A controller with a held number: nothing where a half is missing, or for the null number.
+#[tactic(auto, unfolding(crate::specs::Translate::controller_numbered))]
 fn controller_numbered(
     group: u8,
     channel: u8,
@@ -132,81 +113,54 @@ fn controller_numbered(
     msb: u8,
     lsb: u8,
     value: u32,
-) -> Translation
+) -> Option<[u32; 2]>
     requires { (group < 16) × (channel < 16) × (opcode < 16) × (value < 2 ^ 14) }
     ensures { result ≡ controller_numbered group channel opcode msb lsb value }
 {
-    if msb == 0 {
-        return Translation::Nothing;
-    }
-    if lsb == 0 {
-        return Translation::Nothing;
-    }
-    if msb == HELD_NULL {
-        if lsb == HELD_NULL {
-            return Translation::Nothing;
-        }
-        return Translation::Words(
+    match (msb, lsb) {
+        (0, _) | (_, 0) | (HELD_NULL, HELD_NULL) => None,
+        _ => Some([
             first_word(group, opcode, channel, msb - 1, lsb - 1),
             controller_data(opcode, lsb - 1, value),
-        );
+        ]),
     }
-    Translation::Words(
-        first_word(group, opcode, channel, msb - 1, lsb - 1),
-        controller_data(opcode, lsb - 1, value),
-    )
 }
 
 // The selected controller with a value of 14 bits.
-fn controller(state: ChannelState, group: u8, channel: u8, value: u32) -> Translation
+#[tactic(auto, unfolding(crate::specs::Translate::controller))]
+fn controller(state: ChannelState, group: u8, channel: u8, value: u32) -> Option<[u32; 2]>
     requires { (group < 16) × (channel < 16) × (value < 2 ^ 14) }
     ensures { result ≡ controller group channel state value }
 {
-    let kind = state.flags % 4;
-    if kind == 1 {
-        return controller_numbered(group, channel, 0x2, state.rpn_msb, state.rpn_lsb, value);
+    match state.flags % 4 {
+        1 => controller_numbered(group, channel, 0x2, state.rpn_msb, state.rpn_lsb, value),
+        2 => controller_numbered(group, channel, 0x3, state.nrpn_msb, state.nrpn_lsb, value),
+        _ => None,
     }
-    if kind == 2 {
-        return controller_numbered(group, channel, 0x3, state.nrpn_msb, state.nrpn_lsb, value);
-    }
-    Translation::Nothing
 }
 
 // The pending entry, with LSB 0.
-fn pending_words(state: ChannelState, group: u8, channel: u8) -> Translation
+#[tactic(auto, unfolding(crate::specs::Translate::pending_words))]
+fn pending_words(state: ChannelState, group: u8, channel: u8) -> Option<[u32; 2]>
     requires { (group < 16) × (channel < 16) × (state.data_msb ≤ 128) }
     ensures { result ≡ pending_words group channel state }
 {
-    if state.flags / 4 % 2 == 1 {
-        if state.data_msb == 0 {
-            return Translation::Nothing;
-        }
+    if state.flags / 4 % 2 == 1 && state.data_msb != 0 {
         return controller(state, group, channel, joined_value(state.data_msb - 1, 0));
     }
-    Translation::Nothing
+    None
 }
 
 // A Data Entry MSB is held, `out` having been sent before it.
-fn entered_after(state: ChannelState, out: Translation, group: u8, channel: u8) -> Stepped
+#[tactic(auto, unfolding(crate::specs::Translate::entered_after))]
+fn entered_after(state: ChannelState, out: Option<[u32; 2]>, group: u8, channel: u8) -> Stepped
     requires { (group < 16) × (channel < 16) × (state.data_msb ≤ 128) }
     ensures { result ≡ entered_after out group channel state }
 {
-    match out {
-        Translation::Words(a, b) => Stepped {
-            state,
-            reply: Translation::Words(a, b),
-        },
-        Translation::Nothing => {
-            if mcm(state) {
-                return step_of(pending_sent(state), pending_words(state, group, channel));
-            }
-            step_of(state, Translation::Nothing)
-        }
-        Translation::OutOfRange => Stepped {
-            state,
-            reply: Translation::OutOfRange,
-        },
+    if out.is_none() && mcm(state) {
+        return step_of(pending_sent(state), pending_words(state, group, channel));
     }
+    step_of(state, out)
 }
 
 // Data Entry MSB, controller 6.
@@ -220,6 +174,7 @@ fn enter_msb(state: ChannelState, group: u8, channel: u8, value: u8) -> Stepped
 }
 
 // Data Entry LSB, controller 38.
+#[tactic(auto, unfolding(crate::specs::Translate::lsb_entered))]
 fn enter_lsb(state: ChannelState, group: u8, channel: u8, value: u8) -> Stepped
     requires { (group < 16) × (channel < 16) × (value < 128) × (state.data_msb ≤ 128) }
     ensures { result ≡ lsb_entered group channel state value }
@@ -228,7 +183,7 @@ fn enter_lsb(state: ChannelState, group: u8, channel: u8, value: u8) -> Stepped
         return step_of(pending_sent(state), pending_words(state, group, channel));
     }
     if state.data_msb == 0 {
-        return step_of(state, Translation::Nothing);
+        return step_of(state, None);
     }
     step_of(
         complete(state),
@@ -242,112 +197,86 @@ fn enter_lsb(state: ChannelState, group: u8, channel: u8, value: u8) -> Stepped
 }
 
 // A control change.
+#[tactic(auto, unfolding(crate::specs::Translate::control_changed))]
 fn control_change(state: ChannelState, group: u8, channel: u8, index: u8, value: u8) -> Stepped
     requires { (group < 16) × (channel < 16) × (value < 128) × (state.data_msb ≤ 128) }
     ensures { result ≡ control_changed group channel state index value }
 {
-    if index == 0 {
-        return step_of(hold_bank_msb(state, value), Translation::Nothing);
-    }
-    if index == 6 {
-        return enter_msb(state, group, channel, value);
-    }
-    if index == 32 {
-        return step_of(hold_bank_lsb(state, value), Translation::Nothing);
-    }
-    if index == 38 {
-        return enter_lsb(state, group, channel, value);
-    }
-    if index == 121 {
-        return step_of(
+    match index {
+        0 => step_of(hold_bank_msb(state, value), None),
+        6 => enter_msb(state, group, channel, value),
+        32 => step_of(hold_bank_lsb(state, value), None),
+        38 => enter_lsb(state, group, channel, value),
+        98..=101 => step_of(
+            select(pending_sent(state), index, value),
+            pending_words(state, group, channel),
+        ),
+        121 => step_of(
             reset_controllers(state),
             passed_on(group, channel, 0xB, index, value),
-        );
+        ),
+        _ => step_of(state, passed_on(group, channel, 0xB, index, value)),
     }
-    if index < 98 {
-        return step_of(state, passed_on(group, channel, 0xB, index, value));
-    }
-    if 101 < index {
-        return step_of(state, passed_on(group, channel, 0xB, index, value));
-    }
-    let sent = pending_sent(state);
-    step_of(
-        select(sent, index, value),
-        pending_words(state, group, channel),
-    )
 }
 
 // A program change with the held bank.
-fn bank_words(state: ChannelState, group: u8, channel: u8, program: u8) -> Translation
+fn bank_words(state: ChannelState, group: u8, channel: u8, program: u8) -> Option<[u32; 2]>
     requires { (group < 16) × (channel < 16) × (program < 128) }
     ensures { result ≡ bank_words group channel state program }
 {
     let bank = (value_in(state.bank_msb) as u32) * 0x100 + value_in(state.bank_lsb) as u32;
-    Translation::Words(
+    Some([
         first_word(group, 0xC, channel, 0, 1),
         (program as u32) * 0x100_0000 + bank,
-    )
+    ])
 }
 
 // A program change carries the held bank.
-fn program_words(state: ChannelState, group: u8, channel: u8, program: u8) -> Translation
+#[tactic(auto, unfolding(crate::specs::Translate::program_words))]
+fn program_words(state: ChannelState, group: u8, channel: u8, program: u8) -> Option<[u32; 2]>
     requires { (group < 16) × (channel < 16) × (program < 128) }
     ensures { result ≡ program_words group channel state program }
 {
-    if state.bank_msb == 0 {
-        if state.bank_lsb == 0 {
-            return Translation::Words(
-                first_word(group, 0xC, channel, 0, 0),
-                (program as u32) * 0x100_0000,
-            );
-        }
-        return bank_words(state, group, channel, program);
+    if state.bank_msb == 0 && state.bank_lsb == 0 {
+        return Some([
+            first_word(group, 0xC, channel, 0, 0),
+            (program as u32) * 0x100_0000,
+        ]);
     }
     bank_words(state, group, channel, program)
 }
 
 // A message of this channel, by its group, channel, opcode and data bytes.
+#[tactic(auto, unfolding(crate::specs::Translate::message_translated))]
 fn step(state: ChannelState, group: u8, channel: u8, opcode: u8, a: u8, b: u8) -> Stepped
     requires { (group < 16) × (channel < 16) × (a < 128) × (b < 128) × (state.data_msb ≤ 128) }
     ensures { result ≡ message_translated group channel state opcode a b }
 {
-    if opcode == 0x8 {
-        return step_of(
+    match (opcode, b) {
+        (0x8, _) => step_of(
             state,
             note_words(group, channel, 0x8, a, up(b as u32, 7, 16)),
-        );
-    }
-    if opcode == 0x9 {
-        if b == 0 {
-            return step_of(state, note_words(group, channel, 0x8, a, 0x8000));
-        }
-        return step_of(
+        ),
+        (0x9, 0) => step_of(state, note_words(group, channel, 0x8, a, 0x8000)),
+        (0x9, _) => step_of(
             state,
             note_words(group, channel, 0x9, a, up(b as u32, 7, 16)),
-        );
-    }
-    if opcode == 0xA {
-        return step_of(state, passed_on(group, channel, 0xA, a, b));
-    }
-    if opcode == 0xB {
-        return control_change(state, group, channel, a, b);
-    }
-    if opcode == 0xC {
-        return step_of(bank_sent(state), program_words(state, group, channel, a));
-    }
-    if opcode == 0xD {
-        return step_of(state, passed_on(group, channel, 0xD, 0, a));
-    }
-    step_of(
-        state,
-        Translation::Words(
-            first_word(group, 0xE, channel, 0, 0),
-            up(joined_value(b, a), 14, 32),
         ),
-    )
+        (0xA, _) => step_of(state, passed_on(group, channel, 0xA, a, b)),
+        (0xB, _) => control_change(state, group, channel, a, b),
+        (0xC, _) => step_of(bank_sent(state), program_words(state, group, channel, a)),
+        (0xD, _) => step_of(state, passed_on(group, channel, 0xD, 0, a)),
+        _ => step_of(
+            state,
+            Some([
+                first_word(group, 0xE, channel, 0, 0),
+                up(joined_value(b, a), 14, 32),
+            ]),
+        ),
+    }
 }
 
-fn step_of(state: ChannelState, reply: Translation) -> Stepped
+fn step_of(state: ChannelState, reply: Option<[u32; 2]>) -> Stepped
     ensures { result ≡ channel_step state reply }
 {
     Stepped { state, reply }
@@ -357,24 +286,19 @@ fn step_of(state: ChannelState, reply: Translation) -> Stepped
 fn value_in(held: u8) -> u8
     ensures { result ≡ value_in held }
 {
-    if held == 0 {
-        return 0;
-    }
-    held - 1
+    held.saturating_sub(1)
 }
 
 // The record with another state of a channel, and an answer.
 fn replying(translator: Midi1ToMidi2Group, c: usize, stepped: Stepped) -> Translated
     requires { c < 16 }
-    ensures { (result.reply ≡ stepped.reply) × (result.translator ≡ with_state translator c stepped.state) }
+    ensures { (result.reply ≡ Ok stepped.reply) × (result.translator ≡ with_state translator c stepped.state) }
 {
     let mut t = translator;
-    let s = stepped.state;
-    let reply = stepped.reply;
-    t.state[c] = s;
+    t.state[c] = stepped.state;
     Translated {
         translator: t,
-        reply,
+        reply: Ok(stepped.reply),
     }
 }
 
@@ -404,12 +328,12 @@ pub fn translate_words(translator: Midi1ToMidi2Group, word: u32) -> Translated
         }
         return Translated {
             translator,
-            reply: Translation::OutOfRange,
+            reply: Err(OutOfRange),
         };
     }
     Translated {
         translator,
-        reply: Translation::OutOfRange,
+        reply: Err(OutOfRange),
     }
 }
 
@@ -427,6 +351,6 @@ pub fn flush(translator: Midi1ToMidi2Group, group: u8, channel: u8) -> Translate
     }
     Translated {
         translator,
-        reply: Translation::OutOfRange,
+        reply: Err(OutOfRange),
     }
 }

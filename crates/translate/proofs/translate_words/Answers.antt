@@ -1,16 +1,15 @@
 -- `translate::translate_words` meets its contract.
-use borrow.Author.Rules.{rules}
 use Rattle.ump.proofs.Cut.{field_lt}
 use mathlib.Core.Path.{sym, ap, ◌∙◌}
 use Rattle.translate_state.proofs.Allowed.{data-allowed}
 use Rattle.translate_state.specs.State.{state_on}
-use Rattle.translate.specs.Translate.{translation_read, message_translated, with_state}
+use Rattle.translate.specs.Translate.{words_in, translation_read, message_translated, with_state}
 use Prim.Native.Nat.{◌<◌}
 use Rattle.translate.proofs.Refused.{others-refused}
 use Rattle.translate.proofs.Exact.{continues, exactly-accepted}
 use Rattle.translate.proofs.Rules.{translated-by-rules, no-number-rules}
 use Rattle.translate.specs.Translate.{translation_of, record_after}
-use Rattle.ump.specs.Outcome.{out_of_range}
+use Rattle.ump.specs.Outcome.{given, out_of_range}
 use mathlib.Core.Path.{◌≡◌, refl}
 use Rattle.translate.proofs.translate_words.Goals as goal
 
@@ -35,7 +34,7 @@ returns-then-is_message c =
     let h = c.step-next.ensures
     ∙ (λ i. message_translated (c.group.ensures i) (c.channel-c.ensures i) (state_on r (c.channel-c.ensures i)) (c.opcode.ensures i) (c.first_data.ensures i) (c.second_data.ensures i)) in
     let e : translation_read c.replying.result.reply ≡ translation_of r w =
-    rw (a, t) (ap translation_read c.replying.ensures.0 ∙ (λ i. translation_read (h i).reply)) in
+    rw (a, t) (ap translation_read c.replying.ensures.0 ∙ (λ i. given (words_in (h i).reply))) in
     let l : c.replying.result.translator ≡ record_after r w =
     rw (a, t) (c.replying.ensures.1 ∙ (λ i. with_state r (c.channel-c.ensures i) (h i).state)) in
     record {
