@@ -1,5 +1,5 @@
 -- Zones, the roles of channels in them, and the layouts that MPE Configuration Messages make (M1-100 1.5.1, 2.2.1, Appendix B).
-use Rattle.std.specs.Prelude.{ℕ, ◌+◌, ◌-◌, Bool, true, false, ◌||◌, ltb, leb, eqb}
+use Rattle.std.specs.Prelude.{ℕ, ◌+◌, ◌-◌, Bool, true, false, ◌||◌, ltb, leb, eqb, Result, Ok, Err}
 use Rattle.ump.specs.Choice.{when◌then◌else◌}
 use Rattle.ump.specs.Outcome.{Outcome, given, out_of_range, none_there}
 use Rattle.ump.specs.Packet.{packet_value}
@@ -10,16 +10,8 @@ use Rattle.mpe_layout.specs.declared.MpeRole.TheVariants.{NoZone, Manager, Membe
 use Rattle.mpe_layout.specs.declared.ZonePlace.{ZonePlace}
 use Rattle.mpe_layout.specs.declared.ZonePlace.TheVariants.{Outside, AsManager, AsMember}
 use Rattle.mpe_layout.specs.declared.MpeLayout.{MpeLayout}
-use Rattle.mpe_layout.specs.declared.MadeLayout.{MadeLayout}
-use Rattle.mpe_layout.specs.declared.MadeLayout.TheVariants as made_layout
-use Rattle.mpe_layout.specs.declared.Members.{Members}
-use Rattle.mpe_layout.specs.declared.Members.TheVariants as found_members
-use Rattle.mpe_layout.specs.declared.FoundRole.{FoundRole}
-use Rattle.mpe_layout.specs.declared.FoundRole.TheVariants as found_role
-use Rattle.mpe_layout.specs.declared.Activity.{Activity}
-use Rattle.mpe_layout.specs.declared.Activity.TheVariants as activity
-use Rattle.mpe_layout.specs.declared.LowestMember.{LowestMember}
-use Rattle.mpe_layout.specs.declared.LowestMember.TheVariants as lowest_member
+use Rattle.mpe_layout.specs.declared.MemberError.{MemberError}
+use Rattle.mpe_layout.specs.declared.MemberError.TheVariants as member_error
 
 abbrev pub layout_of : ℕ → ℕ → MpeLayout
 layout_of lower upper = record { lower = lower; upper = upper }
@@ -121,27 +113,11 @@ mcm_layout l zone members = of_legal l (given (with_mcm l zone members))
 abbrev pub role_given : MpeLayout → ℕ → Outcome MpeRole
 role_given l channel = of_legal l (given (role_of l (packet_value channel)))
 
--- what each answer gives or declines
-abbrev pub answered : MadeLayout → Outcome MpeLayout
-answered (made_layout.Made l) = given l
-answered made_layout.OutOfRange = out_of_range
-
-abbrev pub answered : Members → Outcome ℕ
-answered (found_members.Count n) = given n
-answered found_members.OutOfRange = out_of_range
-
-abbrev pub answered : FoundRole → Outcome MpeRole
-answered (found_role.Role r) = given r
-answered found_role.OutOfRange = out_of_range
-
-abbrev pub answered : Activity → Outcome Bool
-answered (activity.Active b) = given b
-answered activity.OutOfRange = out_of_range
-
-abbrev pub lowest_found : LowestMember → Outcome ℕ
-lowest_found (lowest_member.Channel c) = given c
-lowest_found lowest_member.OutOfRange = out_of_range
-lowest_found lowest_member.NoMembers = none_there
+-- what `lowest_member` gives or declines
+abbrev pub member_found : Result ℕ MemberError → Outcome ℕ
+member_found (Ok channel) = given channel
+member_found (Err member_error.OutOfRange) = out_of_range
+member_found (Err member_error.NoMembers) = none_there
 
 -- the lowest member of a zone with so many, or none
 abbrev pub lowest_or_none : MpeZone → ℕ → Outcome ℕ

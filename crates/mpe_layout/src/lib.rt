@@ -1,14 +1,16 @@
 // MPE zones, roles and layouts (mpe.rs).
 #![tactic(auto)]
 
-ghost use Rattle.std.specs.Prelude.{◌≡◌, true, ◌<◌};
+ghost use Rattle.std.specs.Prelude.{◌≡◌, ◌<◌, IfOk};
 ghost use Rattle.ump.specs.Outcome.{given, answered};
-ghost use Rattle.mpe_layout.specs.Layout.{legal_counts, no_zones, default_layout, legal, of_legal, members_of, other_zone, manager_of, active, place_of, role_at, role_of, lowest_or_none, left_beside, layout_for, with_mcm, new_layout, mcm_layout, role_given, lowest_found};
-ghost use Rattle.mpe_layout.specs.Sheet.{place_named, HoldsPlaces};
-ghost use Rattle.mpe_layout.specs.declared.ZonePlace.TheVariants.{Outside};
+ghost use Rattle.mpe_layout.specs.Layout.{legal_counts, no_zones, default_layout, legal, of_legal, members_of, other_zone, manager_of, active, place_of, role_at, role_of, lowest_or_none, left_beside, layout_for, new_layout, mcm_layout, role_given, member_found};
+ghost use Rattle.mpe_layout.specs.Sheet.{HoldsPlaces};
+ghost use Rattle.mpe_layout.specs.declared.MemberError.TheVariants as member_error;
+
+use ump::reply::OutOfRange;
 
 // One of the two zones (M1-100 2.2.1).
-#[derive(Clone, Copy)]
+#[derive(Clone, Copy, Debug, PartialEq, Eq)]
 pub enum MpeZone {
     // Manager channel 0, members from 1 up.
     Lower,
@@ -38,7 +40,7 @@ impl MpeZone {
 }
 
 // The role of a channel in a layout (M1-100 1.5.1).
-#[derive(Clone, Copy)]
+#[derive(Clone, Copy, Debug, PartialEq, Eq)]
 pub enum MpeRole {
     // A conventional MIDI 1.0 channel.
     NoZone,
@@ -47,28 +49,26 @@ pub enum MpeRole {
 }
 
 // Where a channel stands to one zone.
-#[derive(Clone, Copy)]
+#[derive(Clone, Copy, Debug, PartialEq, Eq)]
 enum ZonePlace {
     Outside,
     AsManager,
     AsMember,
 }
 
-// An entry of the sheet: outside the zone.
-const N: u8 = 0;
+// The places as the sheet writes them: outside the zone, the zone's manager, a member.
+const N: ZonePlace = ZonePlace::Outside;
 
-// The zone's manager.
-const G: u8 = 1;
+const G: ZonePlace = ZonePlace::AsManager;
 
-// A member.
-const M: u8 = 2;
+const M: ZonePlace = ZonePlace::AsMember;
 
 // The sheet of places in a zone, as a bench sheet has it: a row for each member count, a column for each distance from the manager.
 // N: outside the zone; G: its manager; M: a member.
 //
 //   distance
 //   0  1  2  3  4  5  6  7  8  9 10 11 12 13 14 15      members
-const SHEET: [[u8; 16]; 16] = [
+const SHEET: [[ZonePlace; 16]; 16] = [
     [N, N, N, N, N, N, N, N, N, N, N, N, N, N, N, N], // 0
     [G, M, N, N, N, N, N, N, N, N, N, N, N, N, N, N], // 1
     [G, M, M, N, N, N, N, N, N, N, N, N, N, N, N, N], // 2
@@ -88,23 +88,10 @@ const SHEET: [[u8; 16]; 16] = [
 ];
 
 // `SHEET` by a call.
-fn sheet() -> [[u8; 16]; 16]
+fn sheet() -> [[ZonePlace; 16]; 16]
     ensures { HoldsPlaces result }
 {
     SHEET
-}
-
-// The place that an entry names.
-fn place_named(entry: u8) -> ZonePlace
-    ensures { result ≡ place_named entry }
-{
-    if entry == G {
-        return ZonePlace::AsManager;
-    }
-    if entry == M {
-        return ZonePlace::AsMember;
-    }
-    ZonePlace::Outside
 }
 
 // The place at a distance from the manager of a zone with so many members, from the sheet.
@@ -113,34 +100,20 @@ fn place_listed(members: u8, distance: u8) -> ZonePlace
     ensures { result ≡ place_of members distance }
 {
     let sheet = sheet();
-    let row = sheet[members as usize];
-    place_named(row[distance as usize])
+    sheet[members as usize][distance as usize]
 }
 
 // The same place by comparisons.
+#[tactic(auto, unfolding(crate::specs::Layout::place_of))]
 fn place_compared(members: u8, distance: u8) -> ZonePlace
     ensures { result ≡ place_of members distance }
 {
-    if members == 0 {
-        return ZonePlace::Outside;
-    }
-    if distance == 0 {
-        return ZonePlace::AsManager;
-    }
-    if distance <= members {
-        return ZonePlace::AsMember;
-    }
-    ZonePlace::Outside
-}
-
-// The role by the place in Upper of a channel that is outside Lower.
-fn upper_role(upper: ZonePlace) -> MpeRole
-    ensures { result ≡ role_at Outside upper }
-{
-    match upper {
-        ZonePlace::AsManager => MpeRole::Manager(MpeZone::Upper),
-        ZonePlace::AsMember => MpeRole::Member(MpeZone::Upper),
-        ZonePlace::Outside => MpeRole::NoZone,
+    if members == 0 || members < distance {
+        ZonePlace::Outside
+    } else if distance == 0 {
+        ZonePlace::AsManager
+    } else {
+        ZonePlace::AsMember
     }
 }
 
@@ -148,56 +121,33 @@ fn upper_role(upper: ZonePlace) -> MpeRole
 fn role_at(lower: ZonePlace, upper: ZonePlace) -> MpeRole
     ensures { result ≡ role_at lower upper }
 {
-    match lower {
-        ZonePlace::AsManager => MpeRole::Manager(MpeZone::Lower),
-        ZonePlace::AsMember => MpeRole::Member(MpeZone::Lower),
-        ZonePlace::Outside => upper_role(upper),
+    match (lower, upper) {
+        (ZonePlace::AsManager, _) => MpeRole::Manager(MpeZone::Lower),
+        (ZonePlace::AsMember, _) => MpeRole::Member(MpeZone::Lower),
+        (ZonePlace::Outside, ZonePlace::AsManager) => MpeRole::Manager(MpeZone::Upper),
+        (ZonePlace::Outside, ZonePlace::AsMember) => MpeRole::Member(MpeZone::Upper),
+        (ZonePlace::Outside, ZonePlace::Outside) => MpeRole::NoZone,
     }
 }
 
 // A zone has at most 15 members, and two active zones at most 14 in all.
+#[tactic(auto, unfolding(crate::specs::Layout::legal_counts))]
 fn is_legal(lower: u8, upper: u8) -> bool
     ensures { result ≡ legal_counts lower upper }
 {
-    if 15 < lower {
-        return false;
-    }
-    if 15 < upper {
-        return false;
-    }
-    if lower == 0 {
-        return true;
-    }
-    if upper == 0 {
-        return true;
-    }
-    lower + upper <= 14
-}
-
-// At least one zone has members.
-fn has_members(lower: u8, upper: u8) -> bool
-    ensures { result ≡ active lower upper }
-{
-    if 0 < lower {
-        return true;
-    }
-    0 < upper
+    lower <= 15 && upper <= 15 && (lower == 0 || upper == 0 || lower + upper <= 14)
 }
 
 // What is left of a zone with `other` members when the other zone is given `members`.
+#[tactic(auto, unfolding(crate::specs::Layout::left_beside))]
 fn left_beside(members: u8, other: u8) -> u8
     ensures { result ≡ left_beside members other }
 {
-    if members == 0 {
-        return other;
+    match members {
+        0 => other,
+        1..=13 => other.min(14 - members),
+        _ => 0,
     }
-    if 14 <= members {
-        return 0;
-    }
-    if 14 - members < other {
-        return 14 - members;
-    }
-    other
 }
 
 // The layout with `members` in `zone` and `other` in the other zone.
@@ -218,46 +168,27 @@ fn layout_for(zone: MpeZone, members: u8, other: u8) -> MpeLayout
 
 // A layout: the member count of each zone.
 #[repr(C)]
-#[derive(Clone, Copy)]
+#[derive(Clone, Copy, Debug, PartialEq, Eq)]
 pub struct MpeLayout {
     pub lower: u8,
     pub upper: u8,
 }
 
-// What a call that makes a layout answers.
-#[derive(Clone, Copy)]
-pub enum MadeLayout {
-    Made(MpeLayout),
+// What `lowest_member` declines by.
+#[derive(Clone, Copy, Debug, PartialEq, Eq)]
+pub enum MemberError {
+    // The layout is not legal.
     OutOfRange,
-}
-
-// What `members` answers.
-#[derive(Clone, Copy)]
-pub enum Members {
-    Count(u8),
-    OutOfRange,
-}
-
-// What `role` and `role_compared` answer.
-#[derive(Clone, Copy)]
-pub enum FoundRole {
-    Role(MpeRole),
-    OutOfRange,
-}
-
-// What `is_active` answers.
-#[derive(Clone, Copy)]
-pub enum Activity {
-    Active(bool),
-    OutOfRange,
-}
-
-// What `lowest_member` answers.
-#[derive(Clone, Copy)]
-pub enum LowestMember {
-    Channel(u8),
-    OutOfRange,
+    // The zone is inactive.
     NoMembers,
+}
+
+impl From<OutOfRange> for MemberError {
+    ghost from_gives = { λ _ e. e ≡ member_error.OutOfRange };
+
+    fn from(_refusal: OutOfRange) -> MemberError {
+        MemberError::OutOfRange
+    }
 }
 
 impl MpeLayout {
@@ -285,20 +216,30 @@ impl MpeLayout {
     }
 
     // A layout with these member counts.
-    pub fn new(lower: u8, upper: u8) -> MadeLayout
+    pub fn new(lower: u8, upper: u8) -> Result<MpeLayout, OutOfRange>
         ensures { answered result ≡ new_layout lower upper }
     {
-        if is_legal(lower, upper) {
-            return MadeLayout::Made(MpeLayout { lower, upper });
-        }
-        MadeLayout::OutOfRange
+        MpeLayout { lower, upper }.tested()
     }
 
     // The layout is one that `new` accepts.
+    #[tactic(auto, unfolding(crate::specs::Layout::legal))]
     pub fn is_layout(self) -> bool
         ensures { result ≡ legal self }
     {
         is_legal(self.lower, self.upper)
+    }
+
+    // The layout, if `new` accepts it.
+    #[tactic(auto, unfolding(crate::specs::Layout::legal, crate::specs::Layout::legal_counts))]
+    fn tested(self) -> Result<MpeLayout, OutOfRange>
+        ensures tests { answered result ≡ of_legal self (given self) }
+        ensures bounds { IfOk result (λ l. (l ≡ self) × (l.lower < 16) × (l.upper < 16)) }
+    {
+        if self.is_layout() {
+            return Ok(self);
+        }
+        Err(OutOfRange)
     }
 
     fn count(self, zone: MpeZone) -> u8
@@ -311,41 +252,28 @@ impl MpeLayout {
     }
 
     // The member count of a zone.
-    pub fn members(self, zone: MpeZone) -> Members
+    pub fn members(self, zone: MpeZone) -> Result<u8, OutOfRange>
         ensures { answered result ≡ of_legal self (given (members_of self zone)) }
     {
-        if self.is_layout() {
-            return Members::Count(self.count(zone));
-        }
-        Members::OutOfRange
-    }
-
-    fn announced(self, zone: MpeZone, members: u8) -> MpeLayout
-        ensures { result ≡ with_mcm self zone members }
-    {
-        if 15 < members {
-            return self;
-        }
-        layout_for(
-            zone,
-            members,
-            left_beside(members, self.count(zone.other())),
-        )
+        Ok(self.tested()?.count(zone))
     }
 
     // The layout after an MPE Configuration Message.
-    pub fn with_mcm(self, zone: MpeZone, members: u8) -> MadeLayout
+    #[tactic(auto, unfolding(crate::specs::Layout::with_mcm))]
+    pub fn with_mcm(self, zone: MpeZone, members: u8) -> Result<MpeLayout, OutOfRange>
         ensures { answered result ≡ mcm_layout self zone members }
     {
-        if self.is_layout() {
-            return MadeLayout::Made(self.announced(zone, members));
+        let other = self.members(zone.other())?;
+        if 15 < members {
+            return Ok(self);
         }
-        MadeLayout::OutOfRange
+        Ok(layout_for(zone, members, left_beside(members, other)))
     }
 
     // The role from the sheet: Lower counts its channels from 0 up, Upper from 15 down.
+    #[tactic(auto, unfolding(crate::specs::Layout::role_of))]
     fn role_listed(self, channel: u8) -> MpeRole
-        requires { (legal self ≡ true) × (channel < 16) }
+        requires { (self.lower < 16) × (self.upper < 16) × (channel < 16) }
         ensures { result ≡ role_of self channel }
     {
         role_at(
@@ -355,70 +283,50 @@ impl MpeLayout {
     }
 
     // The role of a channel, as the sheet lists it.
-    pub fn role(self, channel: u8) -> FoundRole
+    pub fn role(self, channel: u8) -> Result<MpeRole, OutOfRange>
         ensures { answered result ≡ role_given self channel }
     {
-        if self.is_layout() {
-            return FoundRole::Role(self.role_listed(channel % 16));
-        }
-        FoundRole::OutOfRange
+        Ok(self.tested()?.role_listed(channel % 16))
     }
 
     // The role by comparisons: the place in Upper is looked for only where the channel is outside Lower.
+    #[tactic(auto, unfolding(crate::specs::Layout::role_of))]
     fn role_in(self, channel: u8) -> MpeRole
         requires { channel < 16 }
         ensures { result ≡ role_of self channel }
     {
-        let lower = place_compared(self.lower, channel);
-        match lower {
+        match place_compared(self.lower, channel) {
             ZonePlace::AsManager => MpeRole::Manager(MpeZone::Lower),
             ZonePlace::AsMember => MpeRole::Member(MpeZone::Lower),
-            ZonePlace::Outside => upper_role(place_compared(self.upper, 15 - channel)),
+            outside => role_at(outside, place_compared(self.upper, 15 - channel)),
         }
     }
 
     // The role of a channel by comparisons, for the byte calls: each message asks for one, and `role` in this place would take the lent call to 1.7 to
     // 2.7 times its instructions (docs/BENCHMARKS.md).
-    pub fn role_compared(self, channel: u8) -> FoundRole
+    pub fn role_compared(self, channel: u8) -> Result<MpeRole, OutOfRange>
         ensures { answered result ≡ role_given self channel }
     {
-        if self.is_layout() {
-            return FoundRole::Role(self.role_in(channel % 16));
-        }
-        FoundRole::OutOfRange
+        Ok(self.tested()?.role_in(channel % 16))
     }
 
     // At least one zone is active.
-    pub fn is_active(self) -> Activity
+    #[tactic(auto, unfolding(crate::specs::Layout::active))]
+    pub fn is_active(self) -> Result<bool, OutOfRange>
         ensures { answered result ≡ of_legal self (given (active self.lower self.upper)) }
     {
-        if self.is_layout() {
-            return Activity::Active(has_members(self.lower, self.upper));
-        }
-        Activity::OutOfRange
+        let layout = self.tested()?;
+        Ok(0 < layout.lower || 0 < layout.upper)
     }
 
     // The lowest member of a zone, or none in a zone without members.
-    pub fn lowest_member(self, zone: MpeZone) -> LowestMember
-        ensures { lowest_found result ≡ of_legal self (lowest_or_none zone (members_of self zone)) }
+    pub fn lowest_member(self, zone: MpeZone) -> Result<u8, MemberError>
+        ensures { member_found result ≡ of_legal self (lowest_or_none zone (members_of self zone)) }
     {
-        if self.is_layout() {
-            return lowest(zone, self.count(zone));
+        match (zone, self.tested()?.count(zone)) {
+            (_, 0) => Err(MemberError::NoMembers),
+            (MpeZone::Lower, _) => Ok(1),
+            (MpeZone::Upper, members) => Ok(15 - members),
         }
-        LowestMember::OutOfRange
-    }
-}
-
-// The lowest member of a zone with so many members.
-fn lowest(zone: MpeZone, members: u8) -> LowestMember
-    requires { members < 16 }
-    ensures { lowest_found result ≡ lowest_or_none zone members }
-{
-    if members == 0 {
-        return LowestMember::NoMembers;
-    }
-    match zone {
-        MpeZone::Lower => LowestMember::Channel(1),
-        MpeZone::Upper => LowestMember::Channel(15 - members),
     }
 }
