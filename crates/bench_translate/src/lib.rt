@@ -6,16 +6,17 @@ ghost use Rattle.translate_state.specs.State.{new_record};
 ghost use Rattle.translate.specs.Translate.{translation_read};
 ghost use Rattle.bench_translate.specs.Runs.{answer_code, translations_sum};
 
-use translate::{Translation, translate_words};
+use translate::translate_words;
 use translate_state::Midi1ToMidi2Group;
+use ump::reply::OutOfRange;
 
-fn translation_code(reply: Translation) -> u64
+fn translation_code(reply: Result<Option<[u32; 2]>, OutOfRange>) -> u64
     ensures { result ≡ answer_code (translation_read reply) }
 {
     match reply {
-        Translation::Words(a, b) => a as u64 + b as u64 * 0x1_0000_0000,
-        Translation::Nothing => 0,
-        Translation::OutOfRange => 1,
+        Ok(Some(words)) => words[0] as u64 + words[1] as u64 * 0x1_0000_0000,
+        Ok(None) => 0,
+        Err(OutOfRange) => 1,
     }
 }
 
@@ -24,15 +25,12 @@ fn translation_code(reply: Translation) -> u64
 pub extern "C" fn gurfemau_translations(words: &[u32]) -> u64
     ensures { result ≡ translations_sum new_record 0 words.now }
 {
-    let mut t = Midi1ToMidi2Group::new();
+    let mut translator = Midi1ToMidi2Group::new();
     let mut sum: u64 = 0;
-    let mut i: usize = 0;
-    while i < words.len() {
-        let s = translate_words(t, words[i]);
-        let reply = s.reply;
-        t = s.translator;
-        sum = std::num::wrapping_add_u64(sum, translation_code(reply));
-        i += 1;
+    for word in words {
+        let translated = translate_words(translator, *word);
+        translator = translated.translator;
+        sum = sum.wrapping_add(translation_code(translated.reply));
     }
     sum
 }
