@@ -7,7 +7,7 @@ ghost use Rattle.byte_reader.specs.Reader.{new_reader, reader_at, reading as rea
 ghost use Rattle.byte_reader.specs.Claims.{EachByte};
 
 // What kind of byte it is (MIDI 1.0, Table I).
-#[derive(Clone, Copy)]
+#[derive(Clone, Copy, Debug, PartialEq, Eq)]
 pub enum ByteClass {
     // 00 to 7F
     Data,
@@ -21,8 +21,9 @@ pub enum ByteClass {
     RealTime,
 }
 
+// Its numbers for none stay: it stands in the `repr(C)` End that firmware holds (bench_lent_c).
 #[repr(C)]
-#[derive(Clone, Copy)]
+#[derive(Clone, Copy, Debug, PartialEq, Eq)]
 pub struct Reader {
     // The running status, 80 to EF, or 0 for none.
     pub status: u8,
@@ -31,7 +32,7 @@ pub struct Reader {
 }
 
 // What the reader makes of a byte.
-#[derive(Clone, Copy)]
+#[derive(Clone, Copy, Debug, PartialEq, Eq)]
 pub enum Read {
     Quiet,
     Dropped,
@@ -39,31 +40,23 @@ pub enum Read {
     Message(u32),
 }
 
-#[derive(Clone, Copy)]
+#[derive(Clone, Copy, Debug, PartialEq, Eq)]
 pub struct ReadStep {
     pub reader: Reader,
     pub read: Read,
 }
 
+#[tactic(auto, unfolding(crate::specs::Reader::class_of_byte))]
 fn class_of(b: u8) -> ByteClass
     ensures { result ≡ class_of_byte b }
 {
-    if b < 0x80 {
-        return ByteClass::Data;
+    match b {
+        0x00..=0x7F => ByteClass::Data,
+        0x80..=0xEF => ByteClass::Status,
+        0xF0..=0xF7 => ByteClass::Common,
+        0xF9 | 0xFD => ByteClass::Undefined,
+        0xF8..=0xFF => ByteClass::RealTime,
     }
-    if b < 0xF0 {
-        return ByteClass::Status;
-    }
-    if b < 0xF8 {
-        return ByteClass::Common;
-    }
-    if b == 0xF9 {
-        return ByteClass::Undefined;
-    }
-    if b == 0xFD {
-        return ByteClass::Undefined;
-    }
-    ByteClass::RealTime
 }
 
 // What was read, and a reader with this running status and first data byte.
@@ -80,7 +73,7 @@ fn reading(status: u8, first: u8, read: Read) -> ReadStep
 fn word_of(status: u8, first: u8, second: u8) -> u32
     ensures { result ≡ word_of 0 (status / 16) (status % 16) first second }
 {
-    0x2000_0000 + status as u32 * 65536 + first as u32 * 256 + second as u32
+    u32::from_be_bytes([0x20, status, first, second])
 }
 
 // A data byte that completes a message, or is its first of two.
@@ -88,24 +81,21 @@ fn data_of_two(status: u8, first: u8, b: u8) -> ReadStep
     ensures { result ≡ second_data status first b }
 {
     if first < 0x80 {
-        return reading(status, 0x80, Read::Message(word_of(status, first, b)));
+        reading(status, 0x80, Read::Message(word_of(status, first, b)))
+    } else {
+        reading(status, b, Read::Quiet)
     }
-    reading(status, b, Read::Quiet)
 }
 
+#[tactic(auto, unfolding(crate::specs::Reader::data_step))]
 fn data_byte(status: u8, first: u8, b: u8) -> ReadStep
     ensures { result ≡ data_step status first b }
 {
-    if status < 0x80 {
-        return reading(status, first, Read::Dropped);
+    match status {
+        0x00..=0x7F => reading(status, first, Read::Dropped),
+        0xC0..=0xDF => reading(status, first, Read::Message(word_of(status, b, 0))),
+        _ => data_of_two(status, first, b),
     }
-    if status < 0xC0 {
-        return data_of_two(status, first, b);
-    }
-    if status < 0xE0 {
-        return reading(status, first, Read::Message(word_of(status, b, 0)));
-    }
-    data_of_two(status, first, b)
 }
 
 impl Reader {
