@@ -17,7 +17,7 @@ use Rattle.ump.specs.declared.controller.Rpn.TheVariants.{PitchBendSensitivity}
 use Rattle.ump.proofs.Cases.{by-test}
 use Rattle.ump.proofs.Words.{PartsFit, opcode-of-word, channel-of-word, first-of-word, second-of-word}
 use Rattle.parameters.specs.declared.ParameterState.{ParameterState}
-use Rattle.parameters.specs.declared.MaybeEvent.TheVariants.{Event}
+use Rattle.std.specs.Prelude.{Some}
 use Rattle.parameters.specs.State.{number, with_rpn, selection_of, event_for, number_stored, controlled, update_by_word}
 use Rattle.parameter_event.specs.declared.Parameter.TheVariants.{Registered}
 use Rattle.parameter_event.specs.declared.ParameterChange.{ParameterChange}
@@ -60,7 +60,7 @@ one_more p k a b ws hk ha hb = ap (λ u. with_event u.event (events_from u.state
 abbrev of_sensitivity : ParameterChange → ParameterEvent
 of_sensitivity change = record { parameter = Registered PitchBendSensitivity; change = change }
 
-changes : (p : ParameterState) (c : ParameterChange) → p.rpn_on ≡ true → event_for (selection_of (with_rpn p (number 0 0))) c ≡ Event (of_sensitivity c)
+changes : (p : ParameterState) (c : ParameterChange) → p.rpn_on ≡ true → event_for (selection_of (with_rpn p (number 0 0))) c ≡ Some (of_sensitivity c)
 unfolding selection_of rpn_numbered
 changes p c on = rw on
 

@@ -1,4 +1,3 @@
 -- Laws that proofs of this crate and of those above it cite.
-pub mod Rpn
 pub mod Zones
 pub mod Entered

@@ -1,6 +1,6 @@
 -- Which sensitivities may be sent, and what their messages do where they are received (document 02, 2026-01; document 01, "The message reaches its
 -- channel's parameters").
-use Rattle.std.specs.Prelude.{ℕ, ◌+◌, ◌*◌, ◌^◌, ◌≤◌, Bool, true, ◌≡◌, List, [], ◌∷◌, map, replicate}
+use Rattle.std.specs.Prelude.{ℕ, ◌+◌, ◌*◌, ◌^◌, ◌≤◌, Bool, true, ◌≡◌, List, [], ◌∷◌, map, replicate, Option, Some, None}
 use Rattle.ump.specs.Outcome.{Outcome, given}
 use Rattle.ump.specs.Packet.{packet_value}
 use Rattle.ump.specs.Word.{channel_of}
@@ -10,8 +10,6 @@ use Rattle.parameter_event.specs.declared.ParameterChange.TheVariants.{DataEntry
 use Rattle.parameter_event.specs.declared.ParameterEvent.{ParameterEvent}
 use Rattle.parameter_event.specs.Apply.{applied}
 use Rattle.parameters.specs.declared.ParameterState.{ParameterState}
-use Rattle.parameters.specs.declared.MaybeEvent.{MaybeEvent}
-use Rattle.parameters.specs.declared.MaybeEvent.TheVariants.{NoEvent, Event}
 use Rattle.parameters.specs.State.{update_by_word}
 use Rattle.mpe_pitch.specs.declared.MpeSensitivity.{MpeSensitivity}
 
@@ -21,9 +19,9 @@ AllowedWithin s answer =
     (answer ≡ true → (s.semitones ≤ 96) × (s.cents ≤ 99)) × (s.semitones ≤ 96 → s.cents ≤ 99 → answer ≡ true)
 
 -- the events that the parameters of a channel give for messages, in turn
-abbrev pub with_event : MaybeEvent → List ParameterEvent → List ParameterEvent
-with_event NoEvent later = later
-with_event (Event e) later = e ∷ later
+abbrev pub with_event : Option ParameterEvent → List ParameterEvent → List ParameterEvent
+with_event None later = later
+with_event (Some e) later = e ∷ later
 
 unfoldable pub events_from : ParameterState → List ℕ → List ParameterEvent
 events_from p [] = []

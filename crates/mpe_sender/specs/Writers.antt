@@ -1,10 +1,11 @@
 -- The messages that a sender writes for a channel or a note, with Group 0 (M1-100 2.2.1, 2.2.4.3, 2.2.5, 2.4, Appendices B and C).
-use Rattle.std.specs.Prelude.{ℕ, Bool, true, false, List, [], ◌∷◌, ◌++◌, ltb, eqb}
+use Rattle.std.specs.Prelude.{ℕ, Bool, true, false, List, [], ◌∷◌, ◌++◌, ltb, eqb, Result, Ok, Err}
 use Rattle.ump.specs.Choice.{when◌then◌else◌}
 use Rattle.ump.specs.Outcome.{Outcome, given, out_of_range, all_of, followed_by}
 use Rattle.ump.specs.Packet.{packet_value}
 use Rattle.ump.specs.Word.{word_of, control_change, two_data_word, one_data_word, bend_word}
 use Rattle.ump.specs.declared.controller.Rpn.{Rpn}
+use Rattle.ump.specs.declared.reply.OutOfRange.{OutOfRange}
 use Rattle.parameter_messages.specs.Writers.{select_messages, change_message}
 use Rattle.parameter_event.specs.declared.Parameter.TheVariants.{Registered}
 use Rattle.parameter_event.specs.declared.ParameterChange.TheVariants.{DataEntryMsb}
@@ -13,7 +14,6 @@ use Rattle.mpe_layout.specs.declared.MpeZone.{MpeZone}
 use Rattle.mpe_layout.specs.declared.MpeLayout.{MpeLayout}
 use Rattle.mpe_pitch.specs.declared.MpeSensitivity.{MpeSensitivity}
 use Rattle.mpe_sender.specs.declared.ActiveZone.{ActiveZone}
-use Rattle.mpe_sender.specs.declared.ActiveZone.TheVariants.{Zone, OutOfRange}
 
 -- the word of a Control Change
 abbrev pub control_word : ℕ → ℕ → ℕ → ℕ
@@ -59,9 +59,9 @@ abbrev pub zone_for : MpeLayout → MpeZone → Outcome (ℕ × ℕ)
 zone_for l zone = in_active l zone (given (lowest_of l zone, members_of l zone))
 
 -- what the answer gives or declines
-abbrev pub zone_found : ActiveZone → Outcome (ℕ × ℕ)
-zone_found (Zone lowest members) = given (lowest, members)
-zone_found OutOfRange = out_of_range
+abbrev pub zone_found : Result ActiveZone OutOfRange → Outcome (ℕ × ℕ)
+zone_found (Ok z) = given (z.lowest, z.members)
+zone_found (Err e) = out_of_range
 
 -- Mono Mode On (126) with the member count, or Poly Mode On (127) with 0 (2.2.4.3)
 unfoldable pub mode_on : ℕ → ℕ → Bool → Outcome ℕ
@@ -70,6 +70,15 @@ mode_on lowest members mono = when mono then control_change lowest 126 members e
 -- on the lowest member of the zone (2.2.4.3)
 abbrev pub mode_message : MpeLayout → MpeZone → Bool → Outcome ℕ
 mode_message l zone mono = in_active l zone (mode_on (lowest_of l zone) (members_of l zone) mono)
+
+-- the controls of a channel: Pitch Bend, controller 74, Channel Pressure (2.4, Table 4)
+abbrev pub channel_messages : ℕ → ℕ → ℕ → ℕ → Outcome (List ℕ)
+channel_messages channel bend brightness pressure =
+    all_of
+    (bend_word 0 (packet_value channel) bend
+    ∷ control_change channel 74 brightness
+    ∷ one_data_word 0xD 0 (packet_value channel) pressure
+    ∷ [])
 
 -- the start of a note: Pitch Bend, controller 74, Channel Pressure, then Note On (2.4, Table 4); velocity 0 would be a Note Off
 unfoldable pub note_messages : ℕ → ℕ → ℕ → ℕ → ℕ → ℕ → Outcome (List ℕ)

@@ -1,6 +1,6 @@
 -- `mpe_sender::sensitivity_messages` meets its contract: refused, or the value messages of RPN 0; and what they leave where they are received.
 use mathlib.Core.Path.{◌≡◌, sym, subst, ◌∙◌}
-use mathlib.Core.Bool.{true, false}
+use mathlib.Core.Bool.{true}
 use Rattle.ump.specs.Outcome.{given}
 use Rattle.ump.specs.Packet.{packet_value}
 use Rattle.mpe_pitch.specs.declared.MpeSensitivity.{MpeSensitivity}
