@@ -8,7 +8,8 @@ use native.Mathlib.Omega.{arith}
 use lib.Dec.{ltb, eqb}
 use borrow.Author.Tests.{ltb-true, ltb-false, leb-true, eqb-false, le-ltb, le-leb, ne_eqb}
 use Rattle.ump.specs.Choice.{when◌then◌else◌}
-use Rattle.mpe_layout.specs.Layout.{legal_counts, legal, members_of}
+use Rattle.ump.specs.Outcome.{given}
+use Rattle.mpe_layout.specs.Layout.{legal_counts, legal, of_legal, members_of}
 use Rattle.mpe_layout.specs.declared.MpeZone.{MpeZone}
 use Rattle.mpe_layout.specs.declared.MpeZone.TheVariants.{Lower, Upper}
 use Rattle.mpe_layout.specs.declared.MpeLayout.{MpeLayout}
@@ -75,3 +76,18 @@ members-le l Upper h = (legal-bounds l h).in-upper
 -- two active zones have at most 14 members in all
 pub both-le : (l : MpeLayout) → legal l ≡ true → 0 < l.lower → 0 < l.upper → l.lower + l.upper ≤ 14
 both-le l h = (legal-bounds l h).in_both
+
+-- a call that gives a member count has tested the layout
+pub record Counted (l : MpeLayout) (zone : MpeZone) (members : ℕ) : Type 0 where
+  pub lawful : legal l ≡ true
+  pub is : members ≡ members_of l zone
+  pub below : members < 16
+
+counted_if : (b : Bool) (l : MpeLayout) (zone : MpeZone) (members : ℕ) → legal l ≡ b → given members ≡ of_legal l (given (members_of l zone)) → Counted l zone members
+counted_if true l zone members t e =
+    let m : members ≡ members_of l zone = let f = rw t at e in cc in
+    record { lawful = t; is = m; below = omega (arith, members-le l zone t) }
+counted_if false l zone members t e = let f = rw t at e in cc
+
+pub counted : (l : MpeLayout) (zone : MpeZone) (members : ℕ) → given members ≡ of_legal l (given (members_of l zone)) → Counted l zone members
+counted l zone members e = counted_if (legal l) l zone members refl e

@@ -1,18 +1,14 @@
 -- The channels that a change of layout resets (M1-100 2.2.3; document 01, "The receiver").
-use Rattle.std.specs.Prelude.{ℕ, ◌-◌, ◌≡◌, Bool, true, false, not, ◌||◌, eqb}
-use Rattle.ump.specs.Outcome.{Outcome, given, declined, out_of_range}
+use Rattle.std.specs.Prelude.{ℕ, ◌-◌, ◌≡◌, Bool, true, false, not, ◌||◌, eqb, Option, Some, None}
+use Rattle.ump.specs.Outcome.{Outcome, given, declined}
 use Rattle.ump.specs.Packet.{packet_value}
 use Rattle.ump.specs.Field.{field, mask_to}
-use Rattle.mpe_layout.specs.Layout.{place_of, inside, role_of}
+use Rattle.mpe_layout.specs.Layout.{legal, members_of, place_of, inside, role_of}
 use Rattle.mpe_layout.specs.declared.MpeZone.{MpeZone}
 use Rattle.mpe_layout.specs.declared.MpeZone.TheVariants.{Lower, Upper}
 use Rattle.mpe_layout.specs.declared.MpeRole.{MpeRole}
 use Rattle.mpe_layout.specs.declared.MpeRole.TheVariants.{NoZone, Manager, Member}
 use Rattle.mpe_layout.specs.declared.MpeLayout.{MpeLayout}
-use Rattle.mpe_reset.specs.declared.Change.{Change}
-use Rattle.mpe_reset.specs.declared.Change.TheVariants.{Announced, Set}
-use Rattle.mpe_reset.specs.declared.ResetMask.{ResetMask}
-use Rattle.mpe_reset.specs.declared.ResetMask.TheVariants.{Mask, OutOfRange}
 
 abbrev pub same_zone : MpeZone → MpeZone → Bool
 same_zone Lower Lower = true
@@ -56,10 +52,10 @@ layout_roles before after = in_any_zone before || in_any_zone after
 unfoldable pub layout_hit : MpeLayout → MpeLayout → ℕ → Bool
 layout_hit before after channel = layout_roles (role_of before channel) (role_of after channel)
 
--- the channels that a change resets
-abbrev pub hit_by : Change → MpeLayout → MpeLayout → ℕ → Bool
-hit_by (Announced zone) before after = announcement_hit before after zone
-hit_by Set before after = layout_hit before after
+-- the channels that a change resets: of the zone that is announced, or of the whole layout, which is set
+abbrev pub hit_by : Option MpeZone → MpeLayout → MpeLayout → ℕ → Bool
+hit_by (Some zone) before after = announcement_hit before after zone
+hit_by None before after = layout_hit before after
 
 -- the masks: bit n is the channel with packet value n
 abbrev pub announcement_mask : MpeLayout → MpeLayout → MpeZone → ℕ
@@ -75,6 +71,15 @@ in_lower members channel = inside (place_of members channel)
 unfoldable pub in_upper : ℕ → ℕ → Bool
 in_upper members channel = inside (place_of members (15 - channel))
 
+abbrev pub in_the_zone : MpeZone → ℕ → ℕ → Bool
+in_the_zone Lower members = in_lower members
+in_the_zone Upper members = in_upper members
+
+-- a mask of the channels of a zone, in a legal layout; private functions alone cite it
+pub record ZoneMask (l : MpeLayout) (zone : MpeZone) (mask : ℕ) : Type 0 where
+  pub lawful : legal l ≡ true
+  pub is : mask ≡ mask_to (in_the_zone zone (members_of l zone)) 16
+
 -- the mask has this channel's bit
 abbrev pub named : ℕ → ℕ → Bool
 named mask channel = eqb (field (packet_value channel) 1 mask) 1
@@ -82,13 +87,8 @@ named mask channel = eqb (field (packet_value channel) 1 mask) 1
 -- of a mask that a change of layout gives, a channel is named exactly where the change resets it
 abbrev pub NamesHit : ℕ → ℕ → Bool → Type 0
 NamesHit mask channel answer =
-    (change : Change) (before after : MpeLayout) →
-    mask ≡ mask_to (hit_by change before after) 16 → answer ≡ hit_by change before after (packet_value channel)
-
--- what an answer gives or declines
-abbrev pub answered : ResetMask → Outcome ℕ
-answered (Mask m) = given m
-answered OutOfRange = out_of_range
+    (announced : Option MpeZone) (before after : MpeLayout) →
+    mask ≡ mask_to (hit_by announced before after) 16 → answer ≡ hit_by announced before after (packet_value channel)
 
 -- the channels of a mask, or none
 abbrev pub mask_or_zero : Outcome ℕ → ℕ

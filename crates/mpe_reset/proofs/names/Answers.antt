@@ -13,5 +13,5 @@ returns c =
     let bit = ap (λ x. eqb x 1) (cut (a.channel % 16) 1 a.mask) in
     record {
       is = bit;
-      hit = λ change before after e. bit ∙ ap (λ m. named m a.channel) e ∙ mask-named (hit_by change before after) a.channel;
+      hit = λ announced before after e. bit ∙ ap (λ m. named m a.channel) e ∙ mask-named (hit_by announced before after) a.channel;
     }
