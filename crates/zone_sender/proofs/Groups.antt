@@ -21,20 +21,14 @@ use Rattle.zone_sender.specs.Zone.{group_size, channel_at, sensitivity_at_place,
 use Rattle.zone_sender.specs.declared.ZoneGroups.{ZoneGroups}
 
 pub group-length : (channel : ℕ) (s : MpeSensitivity) → length (sensitivity_group channel s) ≡ group_size
+
+pub group-length : (channel : ℕ) (s : MpeSensitivity) → length (sensitivity_group channel s) ≡ group_size
 group-length channel s = refl
 
 pub groups-length : (z : ZoneGroups) (n : ℕ) → length (groups z n) ≡ group_size * n
 unfolding groups
 groups-length z zero = refl
-groups-length z (suc n) = simp (length-append, group-length) (omega (arith, groups-length z n))
-
--- a group's words at the front
-pub at_front : (xs : List ℕ) (a b c d : ℕ) → group_size ≤ length xs → set (set (set (set xs 0 a) 1 b) 2 c) 3 d ≡ a ∷ b ∷ c ∷ d ∷ drop group_size xs
-at_front [] a b c d h = absurd (omega arith)
-at_front (x ∷ []) a b c d h = absurd (omega arith)
-at_front (x ∷ y ∷ []) a b c d h = absurd (omega arith)
-at_front (x ∷ y ∷ z ∷ []) a b c d h = absurd (omega arith)
-at_front (x ∷ y ∷ z ∷ w ∷ zs) a b c d h = refl
+groups-length z (suc n) = simp length-append (omega (arith, groups-length z n))
 
 -- the part from a on is what lies there, and ys in its place end the list
 tail-mid : (a : ℕ) (xs : List ℕ) → mid_of a (length xs - a) xs ≡ drop a xs
@@ -60,18 +54,6 @@ unfolding groups
 groups-more z k xs₀ xs ys h e y =
     let m : group_size * suc k ≡ group_size * k + group_size = omega arith in
     rw (add-one, m) (grown xs₀ xs (groups z k) (group_at z k) ys (group_size * k) group_size (groups-length z k) h e y)
-
--- the words that are given for a channel and an allowed sensitivity are its group
-pub group-words : (channel : ℕ) (s : MpeSensitivity) (words : List ℕ) → channel < 16 → sensitivity_allowed s ≡ true → given words ≡ sensitivity_messages channel s → words ≡ sensitivity_group channel s
-group-words channel s words h t e =
-    let f : given words ≡ given (sensitivity_group channel s) = rw (t, mod-eq_of_lt h) at e in
-    cc
-
-pub group-made : (channel : ℕ) (s : MpeSensitivity) → sensitivity_allowed s ≡ true → out_of_range ≡ sensitivity_messages channel s → ⊥
-group-made channel s t e =
-    let f : out_of_range ≡ given (sensitivity_group (packet_value channel) s) = rw t at e in
-    let z : ◌≡◌ {A = ℕ} 0 1 = cc in
-    omega arith
 
 -- the k-th channel is one, and its sensitivity is allowed
 pub channel-lt : (z : ZoneGroups) (k : ℕ) → InRange z (k + 1) → channel_at z.manager z.lowest k < 16

@@ -1,5 +1,5 @@
 -- The sensitivity messages of a whole zone (M1-100 2.2.5), and the buffer that they are written to.
-use Rattle.std.specs.Prelude.{ℕ, zero, suc, ◌+◌, ◌*◌, ◌-◌, ◌<◌, ◌≤◌, true, ◌≡◌, List, [], ◌++◌, ltb, eqb, length, drop}
+use Rattle.std.specs.Prelude.{ℕ, zero, suc, ◌+◌, ◌*◌, ◌-◌, ◌<◌, ◌≤◌, true, ◌≡◌, List, [], ◌++◌, ltb, eqb, length, drop, Result, Ok, Err}
 use Rattle.ump.specs.Choice.{when◌then◌else◌}
 use Rattle.ump.specs.Outcome.{Outcome, given, declined, out_of_range, too_small}
 use Rattle.mpe_layout.specs.Layout.{members_of, manager_of, lowest_of}
@@ -9,8 +9,8 @@ use Rattle.mpe_pitch.specs.declared.MpeSensitivity.{MpeSensitivity}
 use Rattle.mpe_pitch.specs.Pitch.{manager_default}
 use Rattle.mpe_sender.specs.Writers.{sensitivity_group, sensitivity_allowed, of_allowed, in_active}
 use Rattle.zone_sender.specs.declared.ZoneGroups.{ZoneGroups}
-use Rattle.zone_sender.specs.declared.Written.{Written}
-use Rattle.zone_sender.specs.declared.Written.TheVariants.{Count, OutOfRange, TooSmall}
+use Rattle.zone_sender.specs.declared.WriteError.{WriteError}
+use Rattle.zone_sender.specs.declared.WriteError.TheVariants as write_error
 
 -- how many messages set the sensitivity of a channel: the same number for any
 abbrev pub group_size : ℕ
@@ -66,7 +66,7 @@ filled (given n) words out = words ++ drop n out
 filled (declined n v) words out = out
 
 -- what the answer gives or declines
-abbrev pub written_read : Written → Outcome ℕ
-written_read (Count n) = given n
-written_read OutOfRange = out_of_range
-written_read (TooSmall needed got) = too_small needed got
+abbrev pub written_read : Result ℕ WriteError → Outcome ℕ
+written_read (Ok n) = given n
+written_read (Err write_error.OutOfRange) = out_of_range
+written_read (Err (write_error.TooSmall needed got)) = too_small needed got
