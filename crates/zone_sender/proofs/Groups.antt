@@ -2,25 +2,21 @@
 -- Assumes nothing.
 use mathlib.Core.Path.{◌≡◌, refl, ◌∙◌}
 use mathlib.Core.Bool.{true}
-use mathlib.Core.List.{List, [], ◌∷◌, ◌++◌, append_assoc, append-nil}
+use mathlib.Core.List.{List, ◌++◌, append_assoc, append-nil}
 use Prim.Native.Nat.{ℕ, zero, suc, ◌+◌, ◌*◌, ◌-◌, ◌<◌, ◌≤◌}
-use native.Mathlib.Nat.{le_refl, mod-eq_of_lt}
+use native.Mathlib.Nat.{le_refl}
 use native.Mathlib.Numerals.{add-one}
 use native.Mathlib.Omega.{arith}
 use lib.Dec.{eqb}
-use lib.ListN.{length, take, drop, set, length-append, length-drop}
+use lib.ListN.{length, take, drop, length-append, length-drop}
 use lib.Seq.{take_at, drop_at, drop-drop, take_all, drop-length}
 use borrow.Author.Tests.{eqb-false}
 use borrow.Rule.Slice.PartMut.{mid_of, put_mid, Post-is}
-use Rattle.ump.specs.Outcome.{given, out_of_range}
-use Rattle.ump.specs.Packet.{packet_value}
 use Rattle.ump.proofs.Cases.{by-test}
 use Rattle.mpe_pitch.specs.declared.MpeSensitivity.{MpeSensitivity}
-use Rattle.mpe_sender.specs.Writers.{sensitivity_group, sensitivity_allowed, sensitivity_messages}
+use Rattle.mpe_sender.specs.Writers.{sensitivity_group, sensitivity_allowed}
 use Rattle.zone_sender.specs.Zone.{group_size, channel_at, sensitivity_at_place, group_at, InRange, groups}
 use Rattle.zone_sender.specs.declared.ZoneGroups.{ZoneGroups}
-
-pub group-length : (channel : ℕ) (s : MpeSensitivity) → length (sensitivity_group channel s) ≡ group_size
 
 pub group-length : (channel : ℕ) (s : MpeSensitivity) → length (sensitivity_group channel s) ≡ group_size
 group-length channel s = refl
