@@ -1,13 +1,15 @@
 -- Widths and values in range, and shifts that lose nothing.
 -- Assumes nothing.
-use mathlib.Core.Path.{◌≡◌, ◌∙◌, sym, ap}
+use mathlib.Core.Path.{◌≡◌, ◌∙◌, sym, subst}
 use mathlib.Core.Bool.{Bool, true, ◌&&◌}
-use Prim.Native.Nat.{ℕ, ◌+◌, ◌-◌, ◌*◌, ◌/◌, ◌%◌, ◌^◌, ◌<◌, ◌≤◌}
-use native.Mathlib.Nat.{one-mul, mul_assoc, mod-eq_of_lt}
+use Prim.Native.Nat.{ℕ, ◌-◌, ◌*◌, ◌/◌, ◌%◌, ◌^◌, ◌<◌, ◌≤◌}
+use native.Mathlib.Nat.{lt_trans, lt_of_lt_of_le, one-mul, mul_comm, mod-eq_of_lt, div-lt_iff_lt-mul}
 use native.Mathlib.Omega.{arith}
 use lib.Dec.{ltb, leb}
 use lib.Bits.{bit_and, and_mask}
-use lib.Pow.{pow-add, pow-lt, shl_exact, shl-shr, shr-shr}
+use lib.Pow.{pow_pos, pow_mono, pow-add, pow-lt, shl_exact, shl_lt}
+use mir.Syntax.{w32}
+use mir.Val.{Fits}
 use borrow.Author.Tests.{leb-true, ltb-true, le-leb, lt-ltb}
 use Rattle.ump.proofs.Cases.{both}
 use Rattle.scale.specs.Scale.{widens, narrows}
@@ -49,6 +51,10 @@ pub narrows-holds : (s d v : ℕ) → Ranged d s (2 ^ s) v → narrows s d v ≡
 unfolding narrows
 narrows-holds s d v r = holds d s (2 ^ s) v r
 
+-- a value of a word has any more bits
+pub within : (v n : ℕ) → v < 2 ^ 32 → 32 ≤ n → leb 32 n ≡ ltb v (2 ^ n)
+within v n h l = le-leb 32 n l ∙ sym (lt-ltb v (2 ^ n) (lt_of_lt_of_le h (pow_mono l)))
+
 -- 1 shifted inside a word
 pub one_shifted : (k w : ℕ) → k < w → 1 * 2 ^ k % 2 ^ w ≡ 2 ^ k
 one_shifted k w h = rw (one-mul (2 ^ k)) (mod-eq_of_lt (pow-lt h))
@@ -61,14 +67,14 @@ masked v n h = rw (one_shifted n 32 h) (and_mask v n)
 pub shifted : (s d v : ℕ) → s ≤ d → d ≤ 32 → v < 2 ^ s → v * 2 ^ (d - s) % 2 ^ 32 ≡ v * 2 ^ (d - s)
 shifted s d v h t l = shl_exact s (d - s) 32 l (omega arith)
 
--- a shift up by k bits and down by n is one shift
-pub shift-up : (a k n : ℕ) → n ≤ k → a * 2 ^ k / 2 ^ n ≡ a * 2 ^ (k - n)
-shift-up a k n h =
-    let e : k ≡ (k - n) + n = omega arith in
-    ap (λ (x : ℕ). a * 2 ^ x / 2 ^ n) e ∙ ap (λ (x : ℕ). a * x / 2 ^ n) (pow-add 2 (k - n) n)
-    ∙ ap (λ (x : ℕ). x / 2 ^ n) (sym (mul_assoc a (2 ^ (k - n)) (2 ^ n))) ∙ shl-shr (a * 2 ^ (k - n)) n
+-- n bits, shifted up by k and down by n, are k bits
+pub up-down-lt : (a n k : ℕ) → a < 2 ^ n → a * 2 ^ k / 2 ^ n < 2 ^ k
+up-down-lt a n k h =
+    (div-lt_iff_lt-mul {k = 2 ^ n} {x = a * 2 ^ k} {y = 2 ^ k} (pow_pos n)).1
+    (subst (λ (x : ℕ). a * 2 ^ k < x) (pow-add 2 n k ∙ mul_comm (2 ^ n) (2 ^ k)) (shl_lt n k h))
 
-pub shift-down : (a k n : ℕ) → k ≤ n → a * 2 ^ k / 2 ^ n ≡ a / 2 ^ (n - k)
-shift-down a k n h =
-    let e : n ≡ k + (n - k) = omega arith in
-    ap (λ (x : ℕ). a * 2 ^ k / 2 ^ x) e ∙ sym (shr-shr (a * 2 ^ k) k (n - k)) ∙ ap (λ (x : ℕ). x / 2 ^ (n - k)) (shl-shr a k)
+pub up-down-fits : (a n k : ℕ) → a < 2 ^ n → n < 32 → k < 32 → Fits w32 (a * 2 ^ k % 2 ^ 64 / 2 ^ n)
+up-down-fits a n k h m l =
+    record { fits = rw (shl_exact n k 64 h (omega arith)) (lt_trans (up-down-lt a n k h) (pow-lt l)) }
+
+pub ruleset repeats = (shl_exact, up-down-fits)

@@ -1,7 +1,7 @@
 // Scaling of values between resolutions (scale.rs; M2-115): Min-Center-Max Scaling (3), and Zero-Extension Scaling with Rounding (4).
 #![tactic(auto)]
 
-ghost use Rattle.std.specs.Prelude.{◌≡◌, ◌-◌, ◌*◌, ◌/◌, ◌%◌, ◌^◌, ◌<◌, ◌≤◌, ltb};
+ghost use Rattle.std.specs.Prelude.{◌≡◌, ◌-◌, ◌*◌, ◌/◌, ◌%◌, ◌^◌, ◌<◌, ◌≤◌, ltb, IsTrue};
 ghost use Rattle.ump.specs.Outcome.{answered};
 ghost use Rattle.scale.specs.Scale.{widens, narrows, repeated, widened, upscaled, downscaled, zero_upscaled, zero_downscaled};
 ghost use Rattle.scale.specs.Claims.{Narrowed, OfValue, Widened, OneWidened, UpscaleKeeps, UpscaleRises, DownscaleReturns, ZeroExtended, Rounded, ZeroDownscaleReturns};
@@ -10,6 +10,7 @@ ghost use Rattle.scale.specs.Examples.{ScalesAsTabled};
 use ump::reply::OutOfRange;
 
 // The value has this many bits.
+#[tactic(auto, using(crate::proofs::Range::within))]
 fn fits(value: u32, bits: u8) -> bool
     ensures { result ≡ ltb value (2 ^ bits) }
 {
@@ -30,7 +31,8 @@ fn max_value(bits: u8) -> u32
 // From 1 bit or more to more bits, at most 32, and the value has the source's bits.
 #[tactic(auto, unfolding(crate::specs::Scale::widens))]
 fn can_upscale(value: u32, src_bits: u8, dst_bits: u8) -> bool
-    ensures { result ≡ widens src_bits dst_bits value }
+    ensures is { result ≡ widens src_bits dst_bits value }
+    ensures ranged { IsTrue result → (1 ≤ src_bits) × (src_bits < dst_bits) × (dst_bits ≤ 32) × (value < 2 ^ src_bits) }
 {
     src_bits >= 1 && dst_bits <= 32 && src_bits < dst_bits && fits(value, src_bits)
 }
@@ -38,12 +40,14 @@ fn can_upscale(value: u32, src_bits: u8, dst_bits: u8) -> bool
 // From at most 32 bits to fewer, at least 1, and the value has the source's bits.
 #[tactic(auto, unfolding(crate::specs::Scale::narrows))]
 fn can_downscale(value: u32, src_bits: u8, dst_bits: u8) -> bool
-    ensures { result ≡ narrows src_bits dst_bits value }
+    ensures is { result ≡ narrows src_bits dst_bits value }
+    ensures ranged { IsTrue result → (1 ≤ dst_bits) × (dst_bits < src_bits) × (src_bits ≤ 32) × (value < 2 ^ src_bits) }
 {
     dst_bits >= 1 && src_bits <= 32 && dst_bits < src_bits && fits(value, src_bits)
 }
 
 // The low bits of a value, this many.
+#[tactic(auto, using(crate::proofs::Range::masked))]
 fn low_bits(value: u32, bits: u8) -> u32
     requires { (1 ≤ bits) × (bits < 32) }
     ensures { result ≡ value % 2 ^ bits }
@@ -52,14 +56,12 @@ fn low_bits(value: u32, bits: u8) -> u32
 }
 
 // The bits that are repeated, at the highest place below the value's own.
+#[tactic(auto, using(crate::proofs::Range::repeats))]
 fn first_repeat(bits: u32, repeat_bits: u8, scale_bits: u8) -> u32
     requires { (bits < 2 ^ repeat_bits) × (repeat_bits < 32) × (scale_bits < 32) }
     ensures { result ≡ bits * 2 ^ scale_bits / 2 ^ repeat_bits }
 {
-    if scale_bits > repeat_bits {
-        return bits << (scale_bits - repeat_bits);
-    }
-    bits >> (repeat_bits - scale_bits)
+    ((bits as u64) << scale_bits >> repeat_bits) as u32
 }
 
 // All bits of the value but the highest, repeated below it (3.3, Figure 1).
@@ -79,21 +81,17 @@ fn bit_repeated(value: u32, src_bits: u8, dst_bits: u8) -> u32
 }
 
 // Min-Center-Max upscaling of a value in range (3.3).
+#[tactic(auto, using(crate::proofs::Range::shifted, crate::proofs::Range::one_shifted), unfolding(crate::specs::Scale::widened))]
 fn min_center_max(value: u32, src_bits: u8, dst_bits: u8) -> u32
     requires { (1 ≤ src_bits) × (src_bits < dst_bits) × (dst_bits ≤ 32) × (value < 2 ^ src_bits) }
     ensures { result ≡ widened src_bits dst_bits value }
 {
-    if src_bits == 1 {
-        if value == 0 {
-            return 0;
-        }
-        return max_value(dst_bits);
+    match (src_bits, value) {
+        (1, 0) => 0,
+        (1, _) => max_value(dst_bits),
+        _ if value <= 1u32 << (src_bits - 1) => value << (dst_bits - src_bits),
+        _ => bit_repeated(value, src_bits, dst_bits),
     }
-    let src_center = 1u32 << (src_bits - 1);
-    if value <= src_center {
-        return value << (dst_bits - src_bits);
-    }
-    bit_repeated(value, src_bits, dst_bits)
 }
 
 // Min-Center-Max upscaling (3.3): refused unless 1 <= src_bits < dst_bits <= 32 and the value has src_bits bits.
@@ -105,10 +103,10 @@ pub fn upscale(value: u32, src_bits: u8, dst_bits: u8) -> Result<u32, OutOfRange
     ensures rises { UpscaleRises src_bits dst_bits }
     ensures examples { ScalesAsTabled }
 {
-    if can_upscale(value, src_bits, dst_bits) {
-        return Ok(min_center_max(value, src_bits, dst_bits));
+    if !can_upscale(value, src_bits, dst_bits) {
+        return Err(OutOfRange);
     }
-    Err(OutOfRange)
+    Ok(min_center_max(value, src_bits, dst_bits))
 }
 
 // Min-Center-Max downscaling (3.4): refused unless 1 <= dst_bits < src_bits <= 32 and the value has src_bits bits.
@@ -117,24 +115,22 @@ pub fn downscale(value: u32, src_bits: u8, dst_bits: u8) -> Result<u32, OutOfRan
     ensures cut { OfValue result (Narrowed src_bits dst_bits value) }
     ensures returns { DownscaleReturns value src_bits dst_bits result }
 {
-    if can_downscale(value, src_bits, dst_bits) {
-        return Ok(value >> (src_bits - dst_bits));
+    if !can_downscale(value, src_bits, dst_bits) {
+        return Err(OutOfRange);
     }
-    Err(OutOfRange)
+    Ok(value >> (src_bits - dst_bits))
 }
 
 // Zero-Extension upscaling (4.3): refused unless 2 <= src_bits < dst_bits <= 32 and the value has src_bits bits.
+#[tactic(auto, unfolding(crate::specs::Scale::zero_upscaled, crate::specs::Scale::zero_extended))]
 pub fn zero_extend_upscale(value: u32, src_bits: u8, dst_bits: u8) -> Result<u32, OutOfRange>
     ensures is { answered result ≡ zero_upscaled value src_bits dst_bits }
     ensures bits { OfValue result (ZeroExtended src_bits dst_bits value) }
 {
-    if src_bits < 2 {
+    if src_bits < 2 || !can_upscale(value, src_bits, dst_bits) {
         return Err(OutOfRange);
     }
-    if can_upscale(value, src_bits, dst_bits) {
-        return Ok(value << (dst_bits - src_bits));
-    }
-    Err(OutOfRange)
+    Ok(value << (dst_bits - src_bits))
 }
 
 // Zero-Extension downscaling (4.4): refused as `downscale` is.
@@ -150,8 +146,5 @@ pub fn zero_extend_downscale(value: u32, src_bits: u8, dst_bits: u8) -> Result<u
     let half = 1u64 << (scale_bits - 1);
     let shifted = (value as u64 + half) >> scale_bits;
     let max = max_value(dst_bits);
-    if shifted <= max as u64 {
-        return Ok(shifted as u32);
-    }
-    Ok(max)
+    Ok(shifted.min(max as u64) as u32)
 }
