@@ -14,6 +14,7 @@ use Rattle.mpe_layout.specs.declared.MpeZone.TheVariants.{Lower, Upper}
 use Rattle.mpe_layout.specs.declared.MpeLayout.{MpeLayout}
 use Rattle.mpe_layout.specs.Layout.{legal, other_zone, members_of}
 use Rattle.mpe_pitch.specs.Pitch.{manager_default, member_default}
+use Rattle.mpe_layout.proofs.Mcm.{mcm-legal}
 use Rattle.mpe_zones.specs.declared.Zones.{Zones}
 use Rattle.mpe_zones.specs.Zones.{with_layout, with_mono, mono_of, slot_of, sensitivity_put, sensitivity_at, zone_sensitivity, activated, activated_if, with_zones_of}
 use Rattle.mpe_zones.specs.Claims.{Activation, Defaults, Activates}
@@ -113,3 +114,6 @@ activates =
       of_zone = zone-activated;
       of_layout = λ z l zone w h some. subst (λ x. Defaults x zone) (sym (chosen (with_zones_of z l) z h)) (set-activated z l zone w h some);
     }
+
+-- what `announce` stands on
+pub ruleset announcing = (activates, mcm-legal)
