@@ -4,11 +4,11 @@
 ghost use Rattle.std.specs.Prelude.{◌≡◌, ◌+◌, ◌*◌, ◌<◌, ◌≤◌, min, nat_abs, pos, ◌-ℤ◌};
 ghost use Rattle.ump.specs.Choice.{when◌then◌else◌};
 ghost use Rattle.mpe_pitch.specs.Pitch.{manager_default, member_default, range_of, nearest, pitch_offset, pitch_bend_value};
-ghost use Rattle.mpe_pitch.specs.Remainder.{offset_with_remainder};
+ghost use Rattle.mpe_pitch.specs.Remainder.{pitch_remainder, offset_with_remainder};
 ghost use Rattle.mpe_pitch.specs.Claims.{OffsetNearest, NoTie, OffsetWithin, OffsetRises, Within, IsPair, OnlyPair};
 
 // A Pitch Bend Sensitivity: semitones (Data Entry MSB of RPN 0) and cents (LSB), 7 bits each (M1-100 2.2.5).
-#[derive(Clone, Copy)]
+#[derive(Clone, Copy, Debug, PartialEq, Eq)]
 pub struct MpeSensitivity {
     pub semitones: u8,
     pub cents: u8,
@@ -32,9 +32,10 @@ impl MpeSensitivity {
         ensures { result ≡ (when manager then manager_default else member_default) }
     {
         if manager {
-            return MpeSensitivity::MANAGER_DEFAULT;
+            MpeSensitivity::MANAGER_DEFAULT
+        } else {
+            MpeSensitivity::MEMBER_DEFAULT
         }
-        MpeSensitivity::MEMBER_DEFAULT
     }
 
     // The range in hundredths of a cent.
@@ -53,11 +54,7 @@ pub const PITCH_UNITS_PER_SEMITONE: i32 = 10_000;
 pub fn unsigned_abs(z: i32) -> u32
     ensures { result ≡ nat_abs z }
 {
-    if z < 0 {
-        ((-(z + 1)) as u32) + 1
-    } else {
-        z as u32
-    }
+    z.unsigned_abs()
 }
 
 // 8192 times n over d, rounded, halves up, in steps of 6 and 7 bits that fit 32 bits.
@@ -76,13 +73,11 @@ fn swing(n: u32, d: u32) -> u32
     requires { (0 < d) × (d ≤ 1282700) }
     ensures { result ≡ min 8192 (nearest (8192 * n) d) }
 {
-    if n < d {
-        return scale_8192(n, d);
-    }
-    0x2000
+    if n < d { scale_8192(n, d) } else { 0x2000 }
 }
 
 // The 14-bit Pitch Bend value of a sender for an offset (Appendix C.3).
+#[tactic(auto, unfolding(crate::specs::Pitch::pitch_bend_value))]
 pub fn pitch_bend_value(offset: i32, sensitivity: MpeSensitivity) -> u16
     ensures { result ≡ pitch_bend_value offset sensitivity }
 {
@@ -90,15 +85,12 @@ pub fn pitch_bend_value(offset: i32, sensitivity: MpeSensitivity) -> u16
     if range == 0 {
         return 0x2000;
     }
-    let k = swing(unsigned_abs(offset), range);
+    let k = swing(offset.unsigned_abs(), range);
     if offset < 0 {
-        return (0x2000 - k) as u16;
+        (0x2000 - k) as u16
+    } else {
+        (0x2000 + k).min(0x3FFF) as u16
     }
-    let value = 0x2000 + k;
-    if 0x3FFF < value {
-        return 0x3FFF;
-    }
-    value as u16
 }
 
 // d times m over 8191, rounded, by the quotient and the remainder of d, in 32 bits.
@@ -112,6 +104,7 @@ fn scale_over_8191(d: u32, m: u32) -> u32
 }
 
 // The pitch offset of a received 14-bit Pitch Bend value (Appendix C.5).
+#[tactic(auto, unfolding(crate::specs::Pitch::pitch_offset))]
 pub fn pitch_offset(value: u16, sensitivity: MpeSensitivity) -> i32
     ensures is { result ≡ pitch_offset value sensitivity }
     ensures nearest { OffsetNearest value sensitivity result }
@@ -119,51 +112,52 @@ pub fn pitch_offset(value: u16, sensitivity: MpeSensitivity) -> i32
     ensures within { OffsetWithin result }
     ensures rises { OffsetRises value sensitivity result }
 {
-    let v = (value & 0x3FFF) as u32;
-    let d = sensitivity.units();
-    if v < 8192 {
-        let k = scale_over_8191(d, 8192 - v);
-        return -(k as i32);
-    }
-    let k = scale_over_8191(d, v - 8192);
-    k as i32
+    let v = (value % 0x4000) as u32;
+    let k = scale_over_8191(sensitivity.units(), v.abs_diff(8192)) as i32;
+    if v < 8192 { -k } else { k }
 }
 
 // A pitch offset and its remainder: the range times (value - 8192) is 8191 times the offset plus the remainder.
-#[derive(Clone, Copy)]
+#[derive(Clone, Copy, Debug, PartialEq, Eq)]
 pub struct OffsetWithRemainder {
     pub offset: i32,
     pub remainder: i32,
 }
 
 // What d times m has over the nearest multiple of 8191, in 32 bits.
+#[tactic(auto, using(crate::proofs::Remainder::rest_of))]
 fn remainder_over_8191(d: u32, m: u32) -> i32
     requires { (d ≤ 1282700) × (m ≤ 8192) }
     ensures { (result ≡ pos (d * m) -ℤ pos (8191 * nearest (d * m) 8191)) × Within 4095 4095 result }
 {
     let rest = (d % 8191) * m % 8191;
     if rest > 4095 {
-        return -((8191 - rest) as i32);
+        rest as i32 - 8191
+    } else {
+        rest as i32
     }
-    rest as i32
+}
+
+// What the range times (value - 8192) has over 8191 times the offset.
+#[tactic(auto, using(crate::proofs::Remainder::remainder_is))]
+fn pitch_remainder(value: u16, sensitivity: MpeSensitivity) -> i32
+    ensures is { result ≡ pitch_remainder value sensitivity }
+    ensures within { Within 4095 4095 result }
+{
+    let v = (value % 0x4000) as u32;
+    let r = remainder_over_8191(sensitivity.units(), v.abs_diff(8192));
+    if v < 8192 { -r } else { r }
 }
 
 // The pitch offset of a received 14-bit Pitch Bend value (Appendix C.5), with its remainder.
+#[tactic(auto, unfolding(crate::specs::Remainder::pitch_remainder))]
 pub fn pitch_offset_with_remainder(value: u16, sensitivity: MpeSensitivity) -> OffsetWithRemainder
     ensures is { result ≡ offset_with_remainder value sensitivity }
     ensures pair { IsPair value sensitivity result }
     ensures only { OnlyPair value sensitivity result }
 {
-    let offset = pitch_offset(value, sensitivity);
-    let v = (value & 0x3FFF) as u32;
-    let d = sensitivity.units();
-    if v < 8192 {
-        let r = remainder_over_8191(d, 8192 - v);
-        return OffsetWithRemainder {
-            offset,
-            remainder: -r,
-        };
+    OffsetWithRemainder {
+        offset: pitch_offset(value, sensitivity),
+        remainder: pitch_remainder(value, sensitivity),
     }
-    let remainder = remainder_over_8191(d, v - 8192);
-    OffsetWithRemainder { offset, remainder }
 }

@@ -3,5 +3,5 @@ use native.Mathlib.Omega.{arith}
 use Rattle.mpe_pitch.proofs.Round.{full}
 use Rattle.mpe_pitch.proofs.swing.Goals as goal
 
-pub returns : goal.returns
-returns c = omega (arith, full c.args.n c.args.d (omega arith) (omega arith))
+pub returns-else-n-d : goal.returns-else-n-d
+returns-else-n-d c = omega (arith, full c.args.n c.args.d (omega arith) (omega arith))
