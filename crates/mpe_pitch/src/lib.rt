@@ -57,18 +57,20 @@ pub fn unsigned_abs(z: i32) -> u32
     z.unsigned_abs()
 }
 
-// 8192 times n over d, rounded, halves up, in steps of 6 and 7 bits that fit 32 bits.
+// 8192 times n over d, rounded, halves up, in steps of 64 and 128 that fit 32 bits.
+#[tactic(auto, using(crate::proofs::Round::over_d))]
 fn scale_8192(n: u32, d: u32) -> u32
     requires { (n < d) × (d ≤ 1282700) }
     ensures { (result ≡ nearest (8192 * n) d) × (result ≤ 8192) }
 {
-    let a = n << 6;
-    let b = (a % d) << 7;
-    let y = ((a / d) << 7) + b / d;
+    let a = n * 64;
+    let b = a % d * 128;
+    let y = a / d * 128 + b / d;
     if 2 * (b % d) >= d { y + 1 } else { y }
 }
 
 // The same for any n, held to the full swing.
+#[tactic(auto, using(crate::proofs::Round::full))]
 fn swing(n: u32, d: u32) -> u32
     requires { (0 < d) × (d ≤ 1282700) }
     ensures { result ≡ min 8192 (nearest (8192 * n) d) }
@@ -94,6 +96,7 @@ pub fn pitch_bend_value(offset: i32, sensitivity: MpeSensitivity) -> u16
 }
 
 // d times m over 8191, rounded, by the quotient and the remainder of d, in 32 bits.
+#[tactic(auto, using(crate::proofs::Round::over_8191))]
 fn scale_over_8191(d: u32, m: u32) -> u32
     requires { (d ≤ 1282700) × (m ≤ 8192) }
     ensures { (result ≡ nearest (d * m) 8191) × (result ≤ 1282857) }
