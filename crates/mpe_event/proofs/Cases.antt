@@ -7,6 +7,7 @@ use mathlib.Core.Logic.{◌⊎◌, inl, inr, ⊎_elim}
 use native.Mathlib.Omega.{arith}
 use lib.Dec.{eqb, ltb}
 use borrow.Author.Tests.{eqb-true, eq-eqb, ne_eqb, le-ltb, ltb-false}
+use Rattle.std.specs.Prelude.{Option, Some, None}
 use Rattle.ump.specs.Choice.{when◌then◌else◌}
 use Rattle.ump.specs.Outcome.{given, out_of_range, none_there}
 use Rattle.ump.specs.declared.controller.Rpn.{Rpn}
@@ -18,8 +19,6 @@ use Rattle.parameter_event.specs.declared.Parameter.TheVariants.{Registered, Non
 use Rattle.parameter_event.specs.declared.ParameterChange.{ParameterChange}
 use Rattle.parameter_event.specs.declared.ParameterChange.TheVariants.{DataEntryMsb, DataEntryLsb, Increment, Decrement}
 use Rattle.parameter_event.specs.declared.ParameterEvent.{ParameterEvent}
-use Rattle.parameters.specs.declared.MaybeEvent.{MaybeEvent}
-use Rattle.parameters.specs.declared.MaybeEvent.TheVariants.{NoEvent, Event}
 use Rattle.mpe_layout.specs.declared.MpeZone.{MpeZone}
 use Rattle.mpe_layout.specs.declared.MpeZone.TheVariants.{Lower, Upper}
 use Rattle.mpe_layout.specs.declared.MpeRole.{MpeRole}
@@ -43,18 +42,18 @@ held z k ro in-role =
     ap role_in (chosen (given (role_of z.layout (k % 16))) out_of_range in-role.layout_legal) ∙ ap (role_of z.layout) m ∙ in-role.has_role
 
 -- ---- what a parameter event is to the receiver
-record RpnZero (o : ℕ) (e : MaybeEvent) : Type 0 where
+record RpnZero (o : ℕ) (e : Option ParameterEvent) : Type 0 where
   change : ParameterChange
   is : decoded o e ≡ BendSensitivity change
   control : o ≡ 0xB
   spelled : e ≡ rpn_event 0 change
 
 abbrev ByRpn : ParameterEvent → Rpn → Type 0
-ByRpn ev r = (decoded_rpn r ev.change ≡ Nothing) ⊎ ((decoded_rpn r ev.change ≡ BendSensitivity ev.change) × (Event ev ≡ rpn_event 0 ev.change))
+ByRpn ev r = (decoded_rpn r ev.change ≡ Nothing) ⊎ ((decoded_rpn r ev.change ≡ BendSensitivity ev.change) × (Some ev ≡ rpn_event 0 ev.change))
 
-by-rpn : (ev : ParameterEvent) (r : Rpn) → ev.parameter ≡ Registered r → ((c : ParameterChange) → Event ev ≡ rpn_event 6 c → ⊥) → ByRpn ev r
+by-rpn : (ev : ParameterEvent) (r : Rpn) → ev.parameter ≡ Registered r → ((c : ParameterChange) → Some ev ≡ rpn_event 6 c → ⊥) → ByRpn ev r
 unfolding rpn_numbered
-by-rpn ev rpn.PitchBendSensitivity p six = inr (refl, λ i. Event (record { parameter = p i; change = ev.change }))
+by-rpn ev rpn.PitchBendSensitivity p six = inr (refl, λ i. Some (record { parameter = p i; change = ev.change }))
 by-rpn ev rpn.FineTuning p six = inl refl
 by-rpn ev rpn.CoarseTuning p six = inl refl
 by-rpn ev rpn.TuningProgramSelect p six = inl refl
@@ -64,18 +63,18 @@ by-rpn ev rpn.Null p six = inl refl
 by-rpn ev (rpn.Other m l) p six =
     by-test (eqb m 0)
     (λ s. by-test (eqb l 6)
-    (λ t. absurd (six ev.change ((λ i. Event (record { parameter = p i; change = ev.change })) ∙ (λ i. Event (record { parameter = Registered (rpn.Other (eqb-true m 0 s i) (eqb-true l 6 t i)); change = ev.change })))))
+    (λ t. absurd (six ev.change ((λ i. Some (record { parameter = p i; change = ev.change })) ∙ (λ i. Some (record { parameter = Registered (rpn.Other (eqb-true m 0 s i) (eqb-true l 6 t i)); change = ev.change })))))
     (λ t. inl (rw (s, t))))
     (λ s. inl (rw s))
 
-by-parameter : (ev : ParameterEvent) (x : Parameter) → ev.parameter ≡ x → ((c : ParameterChange) → Event ev ≡ rpn_event 6 c → ⊥)
-    → (decoded_parameter x ev.change ≡ Nothing) ⊎ ((decoded_parameter x ev.change ≡ BendSensitivity ev.change) × (Event ev ≡ rpn_event 0 ev.change))
+by-parameter : (ev : ParameterEvent) (x : Parameter) → ev.parameter ≡ x → ((c : ParameterChange) → Some ev ≡ rpn_event 6 c → ⊥)
+    → (decoded_parameter x ev.change ≡ Nothing) ⊎ ((decoded_parameter x ev.change ≡ BendSensitivity ev.change) × (Some ev ≡ rpn_event 0 ev.change))
 by-parameter ev (Registered r) p six = by-rpn ev r p six
 by-parameter ev (NonRegistered m l) p six = inl refl
 
-decodes : (o : ℕ) (e : MaybeEvent) → NoRpn 6 o e → (decoded o e ≡ Nothing) ⊎ RpnZero o e
-decodes o NoEvent six = inl (by-test (eqb o 0xB) (λ t. rw t) (λ t. rw t))
-decodes o (Event ev) six =
+decodes : (o : ℕ) (e : Option ParameterEvent) → NoRpn 6 o e → (decoded o e ≡ Nothing) ⊎ RpnZero o e
+decodes o None six = inl (by-test (eqb o 0xB) (λ t. rw t) (λ t. rw t))
+decodes o (Some ev) six =
     by-test (eqb o 0xB)
     (λ t.
     let b = eqb-true o 0xB t in
@@ -85,11 +84,11 @@ decodes o (Event ev) six =
     (by-parameter ev ev.parameter refl (λ c q. six c b q)))
     (λ t. inl (rw t))
 
-nothing : (o : ℕ) (e : MaybeEvent) → NoRpn 6 o e → NoRpn 0 o e → decoded o e ≡ Nothing
+nothing : (o : ℕ) (e : Option ParameterEvent) → NoRpn 6 o e → NoRpn 0 o e → decoded o e ≡ Nothing
 nothing o e six none = ⊎_elim (λ n. n) (λ y. absurd (none y.change y.control y.spelled)) (decodes o e six)
 
 -- ---- a message by its channel's role
-module _ (z : Zones) (e : MaybeEvent) (o k a : ℕ) (ro : MpeRole) (in-role : InRole z k ro) where
+module _ (z : Zones) (e : Option ParameterEvent) (o k a : ℕ) (ro : MpeRole) (in-role : InRole z k ro) where
   by-role : message_update z e o k a ≡ updated_as z k ro (plain_event z k ro o a) (decoded o e) a
   by-role = ap (λ r. updated_as z k r (plain_event z k r o a) (decoded o e) a) (held z k ro in-role)
 
@@ -230,10 +229,10 @@ event-unused : EventUnused
 event-unused z e o k a n =
     let f = ne_eqb o 0xB n in
     let ro = role_held z.layout k in
-    ap (λ d. updated_as z k ro (plain_event z k ro o a) d a) (passed (decoded_event e) Nothing f ∙ sym (passed (decoded_event NoEvent) Nothing f))
+    ap (λ d. updated_as z k ro (plain_event z k ro o a) d a) (passed (decoded_event e) Nothing f ∙ sym (passed (decoded_event None) Nothing f))
 
-pub receiver-cases : ReceiverCases
-receiver-cases =
+pub receiver_cases : ReceiverCases
+receiver_cases =
     record {
       case_1 = announces;
       case_1_else = otherwise-ignored;

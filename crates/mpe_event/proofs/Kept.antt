@@ -4,20 +4,18 @@ use Prim.Native.Nat.{ℕ}
 use mathlib.Core.Path.{◌≡◌, refl, sym, ◌∙◌}
 use mathlib.Core.Bool.{Bool, true, false, true≢false}
 use lib.Dec.{ltb, eqb}
+use Rattle.std.specs.Prelude.{Option, Some, None}
 use borrow.Author.Tests.{eqb-true, ne_eqb}
 use Rattle.ump.proofs.Cases.{by-test, of-both}
 use Rattle.parameter_event.specs.declared.ParameterChange.{ParameterChange}
 use Rattle.parameter_event.specs.declared.ParameterChange.TheVariants.{DataEntryMsb, DataEntryLsb, Increment, Decrement}
-use Rattle.parameters.specs.declared.MaybeEvent.{MaybeEvent}
-use Rattle.parameters.specs.declared.MaybeEvent.TheVariants.{NoEvent}
+use Rattle.parameter_event.specs.declared.ParameterEvent.{ParameterEvent}
 use Rattle.mpe_layout.specs.declared.MpeZone.{MpeZone}
 use Rattle.mpe_layout.specs.declared.MpeRole.{MpeRole}
 use Rattle.mpe_layout.specs.declared.MpeRole.TheVariants as role
 use Rattle.mpe_layout.specs.Layout.{legal}
 use Rattle.mpe_event.specs.declared.MpeEvent.{MpeEvent}
 use Rattle.mpe_event.specs.declared.MpeEvent.TheVariants.{NoZone, Zone, Layout, Sensitivity, Mode, Ignored}
-use Rattle.mpe_event.specs.declared.AnnouncedZone.{AnnouncedZone}
-use Rattle.mpe_event.specs.declared.AnnouncedZone.TheVariants.{Announced, NoneAnnounced}
 use Rattle.mpe_event.specs.declared.Decoded.{Decoded}
 use Rattle.mpe_event.specs.declared.Decoded.TheVariants.{Nothing, Configuration, BendSensitivity}
 use Rattle.mpe_event.specs.declared.ZonesUpdate.{ZonesUpdate}
@@ -65,9 +63,9 @@ module _ (z : Zones) where
   change-kept zone Increment = stays Ignored
   change-kept zone Decrement = stays Ignored
 
-  configured-kept : (on : AnnouncedZone) (change : ParameterChange) → Kept z (configured_as z on change)
-  configured-kept NoneAnnounced change = stays Ignored
-  configured-kept (Announced zone) change = change-kept zone change
+  configured-kept : (on : Option MpeZone) (change : ParameterChange) → Kept z (configured_as z on change)
+  configured-kept None change = stays Ignored
+  configured-kept (Some zone) change = change-kept zone change
 
   sensitivity-kept : (ro : MpeRole) (change : ParameterChange) → Kept z (sensitivity_update z ro change)
   sensitivity-kept role.NoZone change = stays NoZone
@@ -87,7 +85,7 @@ module _ (z : Zones) where
   decoded-kept channel ro plain (BendSensitivity change) a = sensitivity-kept ro change
   decoded-kept channel ro plain Nothing a = mode-kept plain a
 
-  pub zones-kept : (channel : ℕ) (ro : MpeRole) (plain : MpeEvent) (opcode : ℕ) (e : MaybeEvent) (a : ℕ)
+  pub zones-kept : (channel : ℕ) (ro : MpeRole) (plain : MpeEvent) (opcode : ℕ) (e : Option ParameterEvent) (a : ℕ)
       → changes_by (updated_as z channel ro plain (decoded opcode e) a).event ≡ false → (updated_as z channel ro plain (decoded opcode e) a).zones ≡ z
   zones-kept channel ro plain opcode e a = (decoded-kept channel ro plain (decoded opcode e) a).kept
 
@@ -120,9 +118,9 @@ event-still z channel (role.Member zone) o a n = member-still zone _ _ o a n
 
 -- with no parameter event a message acts by its channel's role
 pub plain-update : (z : Zones) (o channel a : ℕ)
-    → message_update z NoEvent o channel a
+    → message_update z None o channel a
     ≡ zones_update (mode_set z (plain_event z channel (role_held z.layout channel) o a) a) (plain_event z channel (role_held z.layout channel) o a)
 plain-update z o channel a = by-test (eqb o 0xB) (λ e. rw e) (λ e. rw e)
 
-pub quiet-event : (z : Zones) (o channel a : ℕ) → NoMode o a → changes_by (message_update z NoEvent o channel a).event ≡ false
+pub quiet-event : (z : Zones) (o channel a : ℕ) → NoMode o a → changes_by (message_update z None o channel a).event ≡ false
 quiet-event z o channel a n = rw (plain-update z o channel a) (event-still z channel (role_held z.layout channel) o a n)

@@ -3,16 +3,15 @@
 use Prim.Native.Nat.{ℕ}
 use mathlib.Core.Bool.{true, false}
 use lib.Dec.{eqb}
+use Rattle.std.specs.Prelude.{Option, Some, None}
 use Rattle.parameter_event.specs.declared.ParameterChange.{ParameterChange}
 use Rattle.parameter_event.specs.declared.ParameterChange.TheVariants.{DataEntryMsb, DataEntryLsb, Increment, Decrement}
-use Rattle.parameters.specs.declared.MaybeEvent.{MaybeEvent}
+use Rattle.parameter_event.specs.declared.ParameterEvent.{ParameterEvent}
 use Rattle.mpe_layout.specs.declared.MpeZone.{MpeZone}
 use Rattle.mpe_layout.specs.declared.MpeRole.{MpeRole}
 use Rattle.mpe_layout.specs.declared.MpeRole.TheVariants as role
 use Rattle.mpe_event.specs.declared.MpeEvent.{MpeEvent}
 use Rattle.mpe_event.specs.declared.MpeEvent.TheVariants.{NoZone, Zone, Layout, Sensitivity, Mode, Ignored}
-use Rattle.mpe_event.specs.declared.AnnouncedZone.{AnnouncedZone}
-use Rattle.mpe_event.specs.declared.AnnouncedZone.TheVariants.{Announced, NoneAnnounced}
 use Rattle.mpe_event.specs.declared.Decoded.{Decoded}
 use Rattle.mpe_event.specs.declared.Decoded.TheVariants.{Nothing, Configuration, BendSensitivity}
 use Rattle.mpe_event.specs.declared.ZonesUpdate.{ZonesUpdate}
@@ -32,9 +31,9 @@ module _ (z : Zones) (w : ZonesFormed z) where
   change-formed zone Increment = w
   change-formed zone Decrement = w
 
-  configured-formed : (on : AnnouncedZone) (change : ParameterChange) → UpdateFormed (configured_as z on change)
-  configured-formed NoneAnnounced change = w
-  configured-formed (Announced zone) change = change-formed zone change
+  configured-formed : (on : Option MpeZone) (change : ParameterChange) → UpdateFormed (configured_as z on change)
+  configured-formed None change = w
+  configured-formed (Some zone) change = change-formed zone change
 
   sensitivity-formed : (ro : MpeRole) (change : ParameterChange) → UpdateFormed (sensitivity_update z ro change)
   sensitivity-formed role.NoZone change = w
@@ -54,6 +53,6 @@ module _ (z : Zones) (w : ZonesFormed z) where
   decoded-formed channel ro plain (BendSensitivity change) a = sensitivity-formed ro change
   decoded-formed channel ro plain Nothing a = mode-formed plain a
 
-  pub update-formed : (e : MaybeEvent) (opcode channel a : ℕ) → ZonesFormed (message_update z e opcode channel a).zones
+  pub update-formed : (e : Option ParameterEvent) (opcode channel a : ℕ) → ZonesFormed (message_update z e opcode channel a).zones
   update-formed e opcode channel a =
       decoded-formed channel (role_held z.layout channel) _ (decoded opcode e) a

@@ -1,13 +1,11 @@
 -- Document 01, "The receiver", in its order and its words: what a message does to the zones, and its event. The first case that fits decides.
-use Rattle.std.specs.Prelude.{ℕ, ◌+◌, ◌*◌, ◌/◌, ◌%◌, ◌^◌, ◌<◌, ◌≤◌, ◌≡◌, Bool, true, false, ◌⊎◌, eqb}
+use Rattle.std.specs.Prelude.{ℕ, ◌+◌, ◌*◌, ◌/◌, ◌%◌, ◌^◌, ◌<◌, ◌≤◌, ◌≡◌, Bool, true, false, ◌⊎◌, eqb, Option, Some, None}
 use Rattle.ump.specs.Controller.{rpn_of}
 use Rattle.parameter_event.specs.declared.Parameter.TheVariants.{Registered}
 use Rattle.parameter_event.specs.declared.ParameterChange.{ParameterChange}
 use Rattle.parameter_event.specs.declared.ParameterChange.TheVariants.{DataEntryMsb}
 use Rattle.parameter_event.specs.declared.ParameterEvent.{ParameterEvent}
 use Rattle.parameter_event.specs.Apply.{applied}
-use Rattle.parameters.specs.declared.MaybeEvent.{MaybeEvent}
-use Rattle.parameters.specs.declared.MaybeEvent.TheVariants.{NoEvent, Event}
 use Rattle.mpe_layout.specs.declared.MpeZone.{MpeZone}
 use Rattle.mpe_layout.specs.declared.MpeRole.{MpeRole}
 use Rattle.mpe_layout.specs.declared.MpeRole.TheVariants as role
@@ -37,11 +35,11 @@ role_for zone false = role.Member zone
 abbrev pub change_of : ℕ → ParameterChange → ParameterEvent
 change_of lsb change = record { parameter = Registered (rpn_of 0 lsb); change = change }
 
-abbrev pub rpn_event : ℕ → ParameterChange → MaybeEvent
-rpn_event lsb change = Event (change_of lsb change)
+abbrev pub rpn_event : ℕ → ParameterChange → Option ParameterEvent
+rpn_event lsb change = Some (change_of lsb change)
 
 -- the message is no control change with such an event
-abbrev pub NoRpn : ℕ → ℕ → MaybeEvent → Type 0
+abbrev pub NoRpn : ℕ → ℕ → Option ParameterEvent → Type 0
 NoRpn lsb opcode e = (change : ParameterChange) → opcode ≡ 0xB → e ≡ rpn_event lsb change → ⊥
 
 -- "RPN 6 event: on channel 0 (Lower) or 15 (Upper), data entry MSB 0–15 sets the layout and answers the reset mask"
@@ -83,21 +81,21 @@ Sensitivities =
 -- "No zone: NoZone"
 abbrev pub InNoZone : Type 0
 InNoZone =
-    (z : Zones) (e : MaybeEvent) (opcode channel a : ℕ) → InRole z channel role.NoZone → NoRpn 6 opcode e →
+    (z : Zones) (e : Option ParameterEvent) (opcode channel a : ℕ) → InRole z channel role.NoZone → NoRpn 6 opcode e →
     message_update z e opcode channel a ≡ zones_update z NoZone
 
 -- "Ignored: poly pressure on a member; in mode 3 (poly) program change and controllers 0, 32 on a member"
 abbrev pub BankController : ℕ → Type 0
 BankController a = (a ≡ 0) ⊎ (a ≡ 32)
 
-pub record MemberIgnored (z : Zones) (zone : MpeZone) (e : MaybeEvent) (channel a : ℕ) : Type 0 where
+pub record MemberIgnored (z : Zones) (zone : MpeZone) (e : Option ParameterEvent) (channel a : ℕ) : Type 0 where
   pub poly_pressure : message_update z e 0xA channel a ≡ zones_update z Ignored
   pub program_change_message : mono_of z zone ≡ false → message_update z e 0xC channel a ≡ zones_update z Ignored
   pub bank_select : mono_of z zone ≡ false → BankController a → NoRpn 6 0xB e → NoRpn 0 0xB e → message_update z e 0xB channel a ≡ zones_update z Ignored
 
 abbrev pub OnMemberIgnored : Type 0
 OnMemberIgnored =
-    (z : Zones) (zone : MpeZone) (e : MaybeEvent) (channel a : ℕ) → InRole z channel (role.Member zone) → MemberIgnored z zone e channel a
+    (z : Zones) (zone : MpeZone) (e : Option ParameterEvent) (channel a : ℕ) → InRole z channel (role.Member zone) → MemberIgnored z zone e channel a
 
 -- "Controller 126 or 127 on the zone's lowest member: mode 4 (mono) or 3"
 abbrev pub ModeController : ℕ → Type 0
@@ -105,14 +103,14 @@ ModeController a = (a ≡ 126) ⊎ (a ≡ 127)
 
 abbrev pub Modes : Type 0
 Modes =
-    (z : Zones) (zone : MpeZone) (e : MaybeEvent) (channel a : ℕ) → InRole z channel (role.Member zone) → channel ≡ lowest_of z.layout zone →
+    (z : Zones) (zone : MpeZone) (e : Option ParameterEvent) (channel a : ℕ) → InRole z channel (role.Member zone) → channel ≡ lowest_of z.layout zone →
     NoRpn 6 0xB e → NoRpn 0 0xB e → ModeController a →
     message_update z e 0xB channel a ≡ zones_update (with_mono z zone (eqb a 126)) (Mode zone)
 
 -- "Otherwise Zone"
 abbrev pub OnManager : Type 0
 OnManager =
-    (z : Zones) (zone : MpeZone) (e : MaybeEvent) (opcode channel a : ℕ) → InRole z channel (role.Manager zone) → NoRpn 6 opcode e → NoRpn 0 opcode e →
+    (z : Zones) (zone : MpeZone) (e : Option ParameterEvent) (opcode channel a : ℕ) → InRole z channel (role.Manager zone) → NoRpn 6 opcode e → NoRpn 0 opcode e →
     message_update z e opcode channel a ≡ zones_update z (Zone zone true)
 
 -- a message on a member that neither case 4 nor case 5 fits
@@ -124,13 +122,13 @@ pub record Ordinary (z : Zones) (zone : MpeZone) (opcode channel a : ℕ) : Type
 
 abbrev pub OnMember : Type 0
 OnMember =
-    (z : Zones) (zone : MpeZone) (e : MaybeEvent) (opcode channel a : ℕ) → InRole z channel (role.Member zone) → NoRpn 6 opcode e → NoRpn 0 opcode e →
+    (z : Zones) (zone : MpeZone) (e : Option ParameterEvent) (opcode channel a : ℕ) → InRole z channel (role.Member zone) → NoRpn 6 opcode e → NoRpn 0 opcode e →
     Ordinary z zone opcode channel a → message_update z e opcode channel a ≡ zones_update z (Zone zone false)
 
 -- "The event is used only if the message is a control change"
 abbrev pub EventUnused : Type 0
 EventUnused =
-    (z : Zones) (e : MaybeEvent) (opcode channel a : ℕ) → (opcode ≡ 0xB → ⊥) → message_update z e opcode channel a ≡ message_update z NoEvent opcode channel a
+    (z : Zones) (e : Option ParameterEvent) (opcode channel a : ℕ) → (opcode ≡ 0xB → ⊥) → message_update z e opcode channel a ≡ message_update z None opcode channel a
 
 -- the six cases, the event's use, and the values of a zone that is announced or set
 pub record ReceiverCases : Type 0 where

@@ -1,5 +1,5 @@
 -- What a message does to the zones, and its event (document 01, "The receiver"; M1-100 2.2 and 2.3).
-use Rattle.std.specs.Prelude.{ℕ, Bool, true, false, eqb}
+use Rattle.std.specs.Prelude.{ℕ, Bool, true, false, eqb, Option, Some, None}
 use Rattle.ump.specs.Choice.{when◌then◌else◌}
 use Rattle.ump.specs.Outcome.{Outcome, given, declined, out_of_range}
 use Rattle.ump.specs.Word.{opcode_of, channel_of, first_of, word_form}
@@ -9,8 +9,7 @@ use Rattle.parameter_event.specs.declared.Parameter.{Parameter}
 use Rattle.parameter_event.specs.declared.Parameter.TheVariants.{Registered, NonRegistered}
 use Rattle.parameter_event.specs.declared.ParameterChange.{ParameterChange}
 use Rattle.parameter_event.specs.declared.ParameterChange.TheVariants.{DataEntryMsb, DataEntryLsb, Increment, Decrement}
-use Rattle.parameters.specs.declared.MaybeEvent.{MaybeEvent}
-use Rattle.parameters.specs.declared.MaybeEvent.TheVariants.{NoEvent, Event}
+use Rattle.parameter_event.specs.declared.ParameterEvent.{ParameterEvent}
 use Rattle.mpe_layout.specs.declared.MpeZone.{MpeZone}
 use Rattle.mpe_layout.specs.declared.MpeZone.TheVariants.{Lower, Upper}
 use Rattle.mpe_layout.specs.declared.MpeRole.{MpeRole}
@@ -18,10 +17,6 @@ use Rattle.mpe_layout.specs.declared.MpeRole.TheVariants as role
 use Rattle.mpe_layout.specs.Layout.{of_legal, lowest_or_none, members_of}
 use Rattle.mpe_event.specs.declared.MpeEvent.{MpeEvent}
 use Rattle.mpe_event.specs.declared.MpeEvent.TheVariants.{NoZone, Zone, Layout, Sensitivity, Mode, Ignored}
-use Rattle.mpe_event.specs.declared.MpeReply.{MpeReply}
-use Rattle.mpe_event.specs.declared.MpeReply.TheVariants as reply
-use Rattle.mpe_event.specs.declared.AnnouncedZone.{AnnouncedZone}
-use Rattle.mpe_event.specs.declared.AnnouncedZone.TheVariants.{Announced, NoneAnnounced}
 use Rattle.mpe_event.specs.declared.Decoded.{Decoded}
 use Rattle.mpe_event.specs.declared.Decoded.TheVariants.{Nothing, Configuration, BendSensitivity}
 use Rattle.mpe_event.specs.declared.ZonesUpdate.{ZonesUpdate}
@@ -43,12 +38,12 @@ abbrev pub decoded_parameter : Parameter → ParameterChange → Decoded
 decoded_parameter (Registered r) change = decoded_rpn r change
 decoded_parameter (NonRegistered m l) change = Nothing
 
-abbrev pub decoded_event : MaybeEvent → Decoded
-decoded_event NoEvent = Nothing
-decoded_event (Event e) = decoded_parameter e.parameter e.change
+abbrev pub decoded_event : Option ParameterEvent → Decoded
+decoded_event None = Nothing
+decoded_event (Some e) = decoded_parameter e.parameter e.change
 
 -- an event is used only with a control change
-abbrev pub decoded : ℕ → MaybeEvent → Decoded
+abbrev pub decoded : ℕ → Option ParameterEvent → Decoded
 decoded opcode e = when eqb opcode 0xB then decoded_event e else Nothing
 
 abbrev pub zones_update : Zones → MpeEvent → ZonesUpdate
@@ -70,12 +65,12 @@ configured_by z zone Increment = zones_update z Ignored
 configured_by z zone Decrement = zones_update z Ignored
 
 -- the zone that a channel announces: channel 0 Lower, channel 15 Upper (M1-100 2.2.1)
-abbrev pub announced_on : ℕ → AnnouncedZone
-announced_on channel = when eqb channel 0 then Announced Lower else when eqb channel 15 then Announced Upper else NoneAnnounced
+abbrev pub announced_on : ℕ → Option MpeZone
+announced_on channel = when eqb channel 0 then Some Lower else when eqb channel 15 then Some Upper else None
 
-abbrev pub configured_as : Zones → AnnouncedZone → ParameterChange → ZonesUpdate
-configured_as z NoneAnnounced change = zones_update z Ignored
-configured_as z (Announced zone) change = configured_by z zone change
+abbrev pub configured_as : Zones → Option MpeZone → ParameterChange → ZonesUpdate
+configured_as z None change = zones_update z Ignored
+configured_as z (Some zone) change = configured_by z zone change
 
 -- an MPE Configuration Message
 abbrev pub configured : Zones → ℕ → ParameterChange → ZonesUpdate
@@ -141,23 +136,19 @@ updated_as z channel ro plain (BendSensitivity change) a = sensitivity_update z 
 updated_as z channel ro plain Nothing a = zones_update (mode_set z plain a) plain
 
 -- a message whose fields are cut, with the event that its channel's parameters gave for it
-abbrev pub message_update : Zones → MaybeEvent → ℕ → ℕ → ℕ → ZonesUpdate
+abbrev pub message_update : Zones → Option ParameterEvent → ℕ → ℕ → ℕ → ZonesUpdate
 message_update z e opcode channel a =
     updated_as z channel (role_held z.layout channel) (plain_event z channel (role_held z.layout channel) opcode a) (decoded opcode e) a
 
 -- the same of a word
-abbrev pub word_update : Zones → MaybeEvent → ℕ → ZonesUpdate
+abbrev pub word_update : Zones → Option ParameterEvent → ℕ → ZonesUpdate
 word_update z e w = message_update z e (opcode_of w) (channel_of w) (first_of w)
 
 -- what a word gets, by document 01's numbers: one without the form of a message is out of range, and leaves the zones as they are
-abbrev pub answered : MpeReply → Outcome MpeEvent
-answered (reply.Received e) = given e
-answered reply.OutOfRange = out_of_range
-
-abbrev pub zones_reply : Zones → ℕ → MaybeEvent → Outcome MpeEvent
+abbrev pub zones_reply : Zones → ℕ → Option ParameterEvent → Outcome MpeEvent
 zones_reply z w e = when word_form w then given (word_update z e w).event else out_of_range
 
-abbrev pub zones_after : Zones → ℕ → MaybeEvent → Zones
+abbrev pub zones_after : Zones → ℕ → Option ParameterEvent → Zones
 zones_after z w e = when word_form w then (word_update z e w).zones else z
 
 -- the channels that an event resets
