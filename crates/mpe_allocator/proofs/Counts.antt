@@ -1,6 +1,6 @@
 -- The counts sum to the note-ons that got a channel less the note-offs that met a count above 0, by induction on the calls.
 -- Assumes nothing.
-use Rattle.std.proofs.Common.{◌≡◌, ℕ, zero, suc, ◌+◌, ◌-◌, ◌<◌, Bool, true, false, ◌||◌, eqb, leb, List, [], ◌∷◌, length, get_or, set, refl, ◌∙◌, le_of_suc-le-suc, not-suc-le-zero, arith, length-set, get_or-set_same, leb-false}
+use Rattle.std.proofs.Common.{◌≡◌, ℕ, zero, suc, ◌+◌, ◌-◌, ◌<◌, Bool, true, false, ◌||◌, eqb, leb, List, [], ◌∷◌, length, get_or, set, refl, ◌∙◌, le_of_suc-le-suc, not-suc-le-zero, arith, length-set, get_or-set_same, leb-false, Err}
 use borrow.Author.Tests.{eqb-false}
 use Rattle.ump.specs.Choice.{when◌then◌else◌}
 use Rattle.ump.specs.Packet.{packet_value}
@@ -9,9 +9,9 @@ use Rattle.mpe_layout.specs.declared.MpeZone.{MpeZone}
 use Rattle.mpe_layout.specs.declared.MpeLayout.{MpeLayout}
 use Rattle.mpe_allocator.specs.declared.MpeNoteAllocator.{MpeNoteAllocator}
 use Rattle.mpe_allocator.specs.declared.Allocation.{Allocation}
-use Rattle.mpe_allocator.specs.declared.NoteReply.TheVariants.{OutOfRange, NoMembers}
+use Rattle.mpe_layout.specs.declared.MemberError.TheVariants as member_error
 use Rattle.mpe_allocator.specs.Choice.{held_on, mark_of, choice}
-use Rattle.mpe_allocator.specs.Allocator.{emptied, answered, placed_on, one_more, with_note, allocation_of, one_fewer, without_note}
+use Rattle.mpe_allocator.specs.Allocator.{emptied, with_reply, placed_on, one_more, with_note, allocation_of, one_fewer, without_note}
 use Rattle.mpe_allocator.specs.Calls.{AllocatorCall, note_on, note_off, active_notes, same_note, set_same_note, reset, after_call, after_calls, sum, full, Tally, no_tally, got, tallied, tally, CountsSum}
 use Rattle.mpe_allocator.proofs.Order.{never}
 use Rattle.mpe_allocator.proofs.Search.{choice-foremost}
@@ -80,7 +80,7 @@ module _ (active : List ℕ) (c v : ℕ) (t : Tally) (b : c < 16) (k : Kept acti
 
 -- what a note gets, by whether the layout is legal and whether the zone is empty
 abbrev by-zone : MpeNoteAllocator → ℕ → ℕ → Bool → Bool → Allocation
-by-zone a mark c x y = when x then (when y then answered a NoMembers else placed_on a mark c) else answered a OutOfRange
+by-zone a mark c x y = when x then (when y then with_reply a (Err member_error.NoMembers) else placed_on a mark c) else with_reply a (Err member_error.OutOfRange)
 
 note-by : (a : MpeNoteAllocator) (t : Tally) (mark c : ℕ) (x y : Bool) → (x ≡ true → y ≡ false → c < 16) → Kept a.active t
     → Kept (by-zone a mark c x y).allocator.active (noted t (got (by-zone a mark c x y).reply) (by-zone a mark c x y).allocator.active)

@@ -1,19 +1,20 @@
 -- What follows from the answers about a zone, and what a note gets by them, which `allocation_of` computes.
 -- Assumes nothing.
-use Rattle.std.proofs.Common.{◌≡◌, ℕ, suc, ◌+◌, ◌-◌, ◌<◌, ◌≤◌, Bool, true, false, eqb, sym, refl, ap, subst, arith, eq-eqb, ne_eqb, eqb-true}
+use Rattle.std.proofs.Common.{◌≡◌, ℕ, suc, ◌+◌, ◌-◌, ◌<◌, ◌≤◌, Bool, true, false, eqb, sym, refl, ap, subst, arith, eq-eqb, ne_eqb, eqb-true, Ok, Err}
 use borrow.Author.Tests.{eqb-false}
 use Rattle.ump.specs.Choice.{when◌then◌else◌}
 use Rattle.ump.specs.Outcome.{given, out_of_range, none_there}
-use Rattle.mpe_layout.specs.Layout.{legal, of_legal, members_of, lowest_of, lowest_or_none}
+use Rattle.mpe_layout.specs.Layout.{legal, of_legal, members_of, lowest_of, lowest_or_none, member_found}
 use Rattle.mpe_layout.specs.declared.MpeZone.{MpeZone}
 use Rattle.mpe_layout.specs.declared.MpeZone.TheVariants.{Lower, Upper}
 use Rattle.mpe_layout.specs.declared.MpeLayout.{MpeLayout}
 use Rattle.mpe_layout.proofs.Legal.{members-le}
 use Rattle.mpe_allocator.specs.declared.MpeNoteAllocator.{MpeNoteAllocator}
 use Rattle.mpe_allocator.specs.declared.Allocation.{Allocation}
-use Rattle.mpe_allocator.specs.declared.NoteReply.TheVariants.{Channel, OutOfRange, NoMembers}
+use Rattle.mpe_layout.specs.declared.MemberError.{MemberError}
+use Rattle.mpe_layout.specs.declared.MemberError.TheVariants as member_error
 use Rattle.mpe_allocator.specs.Choice.{mark_of, Foremost, Chosen, choice}
-use Rattle.mpe_allocator.specs.Allocator.{note_reply_read, answered, placed_on, Placed, AllocatedAs, illegal, empty, placed, allocation_of}
+use Rattle.mpe_allocator.specs.Allocator.{with_reply, placed_on, Placed, AllocatedAs, illegal, empty, placed, allocation_of}
 use Rattle.mpe_allocator.specs.Claims.{OfChannel, ChosenIsMember, OneChosen, RecallChosen, LeastChosen, OnlyTiesTurned}
 use Rattle.mpe_allocator.specs.Calls.{note_on, note_reply, CallGives}
 use Rattle.mpe_allocator.proofs.Search.{only_one, choice-foremost}
@@ -47,10 +48,6 @@ count_by : (t : Bool) (n m : ℕ) → given m ≡ (when t then given n else out_
 count_by true n m h = cc
 count_by false n m h = differ (cc)
 
-uncounted-by : (t : Bool) (n : ℕ) → out_of_range ≡ (when t then given n else out_of_range) → t ≡ false
-uncounted-by true n h = differ (cc)
-uncounted-by false n h = refl
-
 module _ (l : MpeLayout) (zone : MpeZone) where
   pub found-out : out_of_range ≡ of_legal l (lowest_or_none zone (members_of l zone)) → legal l ≡ false
   found-out h = out-by (legal l) (eqb (members_of l zone) 0) (lowest_of l zone) h
@@ -69,9 +66,6 @@ module _ (l : MpeLayout) (zone : MpeZone) where
   pub found-count : (n : ℕ) → given n ≡ of_legal l (given (members_of l zone)) → n ≡ members_of l zone
   found-count n h = count_by (legal l) (members_of l zone) n h
 
-  pub found-uncounted : out_of_range ≡ of_legal l (given (members_of l zone)) → legal l ≡ false
-  found-uncounted h = uncounted-by (legal l) (members_of l zone) h
-
 -- the members are channels
 pub members-end : (l : MpeLayout) (zone : MpeZone) → legal l ≡ true → lowest_of l zone + members_of l zone ≤ 16
 members-end l Lower h = omega (arith, members-le l Lower h)
@@ -83,20 +77,20 @@ moved a zone mark first n x y c p q f = rw (← p, ← q) f
 
 -- ---- what the note gets
 
-not-out : (fact : ℕ → Type 0) → OfChannel OutOfRange fact
+not-out : (fact : ℕ → Type 0) → OfChannel (Err member_error.OutOfRange) fact
 not-out fact c e = differ (cc)
 
-not_none : (fact : ℕ → Type 0) → OfChannel NoMembers fact
+not_none : (fact : ℕ → Type 0) → OfChannel (Err member_error.NoMembers) fact
 not_none fact c e = differ (cc)
 
-the-channel : (fact : ℕ → Type 0) (c : ℕ) → fact c → OfChannel (Channel c) fact
+the-channel : (fact : ℕ → Type 0) (c : ℕ) → fact c → OfChannel (Ok c) fact
 the-channel fact c f d e = subst fact (let i : c ≡ d = cc in i) f
 
 module _ (a : MpeNoteAllocator) (l : MpeLayout) (zone : MpeZone) (note : ℕ) where
   -- all that `note_on` promises, in its order
   abbrev pub Promised : Allocation → Type 0
   Promised r =
-      AllocatedAs a l zone note (note_reply_read r.reply) r.allocator
+      AllocatedAs a l zone note (member_found r.reply) r.allocator
       × ((r ≡ allocation_of a l zone note)
       × (CallGives a (note_on l zone note) (note_reply r.reply) r.allocator
       × (OfChannel r.reply (ChosenIsMember l zone)
@@ -107,17 +101,22 @@ module _ (a : MpeNoteAllocator) (l : MpeLayout) (zone : MpeZone) (note : ℕ) wh
   listed : (r : Allocation) → r ≡ allocation_of a l zone note → CallGives a (note_on l zone note) (note_reply r.reply) r.allocator
   listed r e = (ap (λ (x : Allocation). note_reply x.reply) e, ap (λ (x : Allocation). x.allocator) e)
 
-  pub in-illegal : legal l ≡ false → Promised (answered a OutOfRange)
+  in-illegal : legal l ≡ false → Promised (with_reply a (Err member_error.OutOfRange))
   unfolding allocation_of
   in-illegal h =
-      let e : answered a OutOfRange ≡ allocation_of a l zone note = rw h in
-      (illegal h, (e, (listed (answered a OutOfRange) e, (not-out _, (not-out _, (not-out _, (not-out _, not-out _)))))))
+      let e : with_reply a (Err member_error.OutOfRange) ≡ allocation_of a l zone note = rw h in
+      (illegal h, (e, (listed (with_reply a (Err member_error.OutOfRange)) e, (not-out _, (not-out _, (not-out _, (not-out _, not-out _)))))))
 
-  pub in-empty : legal l ≡ true → members_of l zone ≡ 0 → Promised (answered a NoMembers)
+  in-empty : legal l ≡ true → members_of l zone ≡ 0 → Promised (with_reply a (Err member_error.NoMembers))
   unfolding allocation_of
   in-empty h m =
-      let e : answered a NoMembers ≡ allocation_of a l zone note = rw (h, eq-eqb (members_of l zone) 0 m) in
-      (empty h m, (e, (listed (answered a NoMembers) e, (not_none _, (not_none _, (not_none _, (not_none _, not_none _)))))))
+      let e : with_reply a (Err member_error.NoMembers) ≡ allocation_of a l zone note = rw (h, eq-eqb (members_of l zone) 0 m) in
+      (empty h m, (e, (listed (with_reply a (Err member_error.NoMembers)) e, (not_none _, (not_none _, (not_none _, (not_none _, not_none _)))))))
+
+  -- a refusal of `lowest_member`
+  pub refused : (e : MemberError) → member_found (Err e) ≡ of_legal l (lowest_or_none zone (members_of l zone)) → Promised (with_reply a (Err e))
+  refused member_error.OutOfRange h = in-illegal (found-out l zone h)
+  refused member_error.NoMembers h = let f = found_none l zone h in in-empty f.0 f.1
 
   pub in-zone : legal l ≡ true → 0 < members_of l zone → (c : ℕ) → Chosen a l zone note c → Promised (placed_on a (mark_of note) c)
   unfolding allocation_of

@@ -1,15 +1,15 @@
 -- What the calls leave on each channel, and that the lists of an allocator keep their lengths under every list of calls.
 -- Assumes nothing.
-use Rattle.std.proofs.Common.{◌≡◌, ℕ, ◌-◌, ◌%◌, ◌<◌, Bool, true, false, eqb, List, [], ◌∷◌, length, sym, refl, ◌∙◌, subst, arith, length-set, get_or-set_other, get_or-set_same, eq-eqb, ne_eqb}
+use Rattle.std.proofs.Common.{◌≡◌, ℕ, ◌-◌, ◌%◌, ◌<◌, Bool, true, false, eqb, List, [], ◌∷◌, length, sym, refl, ◌∙◌, subst, arith, length-set, get_or-set_other, get_or-set_same, eq-eqb, ne_eqb, Ok, Err}
 use borrow.Author.Tests.{eqb-false}
 use Rattle.ump.specs.Choice.{when◌then◌else◌}
 use Rattle.ump.specs.Packet.{packet_value}
 use Rattle.ump.proofs.Cases.{chosen, passed}
 use Rattle.mpe_layout.specs.Layout.{legal, members_of, lowest_of}
 use Rattle.mpe_allocator.specs.declared.MpeNoteAllocator.{MpeNoteAllocator}
-use Rattle.mpe_allocator.specs.declared.NoteReply.TheVariants.{Channel, OutOfRange, NoMembers}
+use Rattle.mpe_layout.specs.declared.MemberError.TheVariants as member_error
 use Rattle.mpe_allocator.specs.Choice.{held_on, mark_of, choice}
-use Rattle.mpe_allocator.specs.Allocator.{emptied, answered, placed_on, with_note, allocation_of, one_fewer, without_note}
+use Rattle.mpe_allocator.specs.Allocator.{emptied, with_reply, placed_on, with_note, allocation_of, one_fewer, without_note}
 use Rattle.mpe_allocator.specs.Calls.{AllocatorCall, note_on, note_off, active_notes, same_note, set_same_note, reset, note_reply, after_call, after_calls}
 use Rattle.mpe_allocator.specs.Stored.{NoteStored, NoteReleased, CallsStore, AlwaysStored}
 use Rattle.mpe_allocator.proofs.Noted.{members-end, differ}
@@ -50,8 +50,8 @@ module _ (a : MpeNoteAllocator) (s : Sized a) where
 
   -- a note that got a channel, by whether the layout is legal and the zone empty
   stored-by : (note c d : ℕ) (x y : Bool) → (x ≡ true → y ≡ false → d < 16)
-      → note_reply (when x then (when y then answered a NoMembers else placed_on a (mark_of note) d) else answered a OutOfRange).reply ≡ note_reply (Channel c)
-      → NoteStored a (when x then (when y then answered a NoMembers else placed_on a (mark_of note) d) else answered a OutOfRange).allocator note c
+      → note_reply (when x then (when y then with_reply a (Err member_error.NoMembers) else placed_on a (mark_of note) d) else with_reply a (Err member_error.OutOfRange)).reply ≡ note_reply (Ok c)
+      → NoteStored a (when x then (when y then with_reply a (Err member_error.NoMembers) else placed_on a (mark_of note) d) else with_reply a (Err member_error.OutOfRange)).allocator note c
   stored-by note c d true true f e = differ (cc)
   stored-by note c d true false f e = subst (NoteStored a (with_note a (mark_of note) d) note) (let i : d ≡ c = cc in i) (note-stored note d (f refl refl))
   stored-by note c d false y f e = differ (cc)
@@ -71,7 +71,7 @@ module _ (a : MpeNoteAllocator) (s : Sized a) where
         unmet = λ channel h. chosen a (one_fewer a (packet_value channel)) (eq-eqb (held_on a (packet_value channel)) 0 h);
       }
 
-pub sized-by : (a : MpeNoteAllocator) (mark d : ℕ) (x y : Bool) → Sized a → Sized (when x then (when y then answered a NoMembers else placed_on a mark d) else answered a OutOfRange).allocator
+pub sized-by : (a : MpeNoteAllocator) (mark d : ℕ) (x y : Bool) → Sized a → Sized (when x then (when y then with_reply a (Err member_error.NoMembers) else placed_on a mark d) else with_reply a (Err member_error.OutOfRange)).allocator
 unfolding with_note
 sized-by a mark d true true s = s
 sized-by a mark d true false s =

@@ -1,5 +1,5 @@
 -- What each call of a note allocator answers, and the allocator after it (M1-100 2.2.4.1, Appendix A.3; document 01, "The sending side").
-use Rattle.std.specs.Prelude.{◌≡◌, ℕ, ◌+◌, ◌-◌, ◌%◌, ◌^◌, min, Bool, true, false, replicate, ◌==◌, nat_eq, slice_set}
+use Rattle.std.specs.Prelude.{◌≡◌, ℕ, ◌+◌, ◌-◌, ◌%◌, ◌^◌, min, Bool, true, false, replicate, ◌==◌, nat_eq, slice_set, Result, Ok, Err}
 use Rattle.ump.specs.Choice.{when◌then◌else◌}
 use Rattle.ump.specs.Outcome.{Outcome, given, out_of_range, none_there}
 use Rattle.mpe_layout.specs.Layout.{legal, members_of, lowest_of}
@@ -7,8 +7,8 @@ use Rattle.mpe_layout.specs.declared.MpeZone.{MpeZone}
 use Rattle.mpe_layout.specs.declared.MpeLayout.{MpeLayout}
 use Rattle.mpe_allocator.specs.declared.MpeNoteAllocator.{MpeNoteAllocator}
 use Rattle.mpe_allocator.specs.declared.Allocation.{Allocation}
-use Rattle.mpe_allocator.specs.declared.NoteReply.{NoteReply}
-use Rattle.mpe_allocator.specs.declared.NoteReply.TheVariants.{Channel, OutOfRange, NoMembers}
+use Rattle.mpe_layout.specs.declared.MemberError.{MemberError}
+use Rattle.mpe_layout.specs.declared.MemberError.TheVariants as member_error
 use Rattle.mpe_allocator.specs.Choice.{held_on, mark_of, Foremost, Chosen, choice}
 
 -- no held note, no release, with the same-note option on or off
@@ -22,14 +22,9 @@ emptied option =
       same_note = option;
     }
 
--- what `note_on` gives or declines
-abbrev pub note_reply_read : NoteReply → Outcome ℕ
-note_reply_read (Channel c) = given c
-note_reply_read OutOfRange = out_of_range
-note_reply_read NoMembers = none_there
-
-abbrev pub answered : MpeNoteAllocator → NoteReply → Allocation
-answered a reply = record { allocator = a; reply = reply }
+-- an allocator after `note_on`, and its answer
+abbrev pub with_reply : MpeNoteAllocator → Result ℕ MemberError → Allocation
+with_reply a reply = record { allocator = a; reply = reply }
 
 -- one held note more, and no more than 255
 abbrev pub one_more : ℕ → ℕ
@@ -47,7 +42,7 @@ with_note a mark c =
     }
 
 abbrev pub placed_on : MpeNoteAllocator → ℕ → ℕ → Allocation
-placed_on a mark c = answered (with_note a mark c) (Channel c)
+placed_on a mark c = with_reply (with_note a mark c) (Ok c)
 
 -- a note of this mark in a zone, on the foremost channel from `first` up to below `end`
 pub record Placed (a : MpeNoteAllocator) (zone : MpeZone) (mark first end : ℕ) (r : Allocation) : Type 0 where
@@ -65,9 +60,9 @@ pub data AllocatedAs (a : MpeNoteAllocator) (l : MpeLayout) (zone : MpeZone) (no
 unfoldable pub allocation_of : MpeNoteAllocator → MpeLayout → MpeZone → ℕ → Allocation
 allocation_of a l zone note =
     when legal l then
-    (when nat_eq (members_of l zone) 0 then answered a NoMembers else
+    (when nat_eq (members_of l zone) 0 then with_reply a (Err member_error.NoMembers) else
     placed_on a (mark_of note) (choice a zone (mark_of note) (lowest_of l zone) (members_of l zone - 1)))
-    else answered a OutOfRange
+    else with_reply a (Err member_error.OutOfRange)
 
 -- the release clock steps from 4,294,967,295 to 0
 abbrev pub tick : ℕ → ℕ

@@ -1,12 +1,12 @@
 -- Lists of calls on one allocator: what each answers and leaves, and what the counts sum to (document 01, "The sending side").
-use Rattle.std.specs.Prelude.{◌≡◌, ℕ, ◌+◌, Bool, false, ◌||◌, List, [], ◌∷◌, ◌==◌, nat_le}
+use Rattle.std.specs.Prelude.{◌≡◌, ℕ, ◌+◌, Bool, false, ◌||◌, List, [], ◌∷◌, ◌==◌, nat_le, Result, Ok, Err}
 use Rattle.ump.specs.Choice.{when◌then◌else◌}
 use Rattle.ump.specs.Packet.{packet_value}
 use Rattle.mpe_layout.specs.declared.MpeZone.{MpeZone}
 use Rattle.mpe_layout.specs.declared.MpeLayout.{MpeLayout}
 use Rattle.mpe_allocator.specs.declared.MpeNoteAllocator.{MpeNoteAllocator}
-use Rattle.mpe_allocator.specs.declared.NoteReply.{NoteReply}
-use Rattle.mpe_allocator.specs.declared.NoteReply.TheVariants.{Channel, OutOfRange, NoMembers}
+use Rattle.mpe_layout.specs.declared.MemberError.{MemberError}
+use Rattle.mpe_layout.specs.declared.MemberError.TheVariants as member_error
 use Rattle.mpe_allocator.specs.Choice.{held_on}
 use Rattle.mpe_allocator.specs.Allocator.{emptied, allocation_of, without_note, with_option}
 
@@ -21,7 +21,7 @@ pub data AllocatorCall : Type 0 where
 
 -- what a call answers: the reply to a note, a count, the option, or nothing beside the allocator
 pub data AllocatorAnswer : Type 0 where
-  note_reply : NoteReply → AllocatorAnswer
+  note_reply : Result ℕ MemberError → AllocatorAnswer
   count : ℕ → AllocatorAnswer
   option : Bool → AllocatorAnswer
   nothing : AllocatorAnswer
@@ -70,10 +70,10 @@ abbrev pub no_tally : Tally
 no_tally = record { ons = 0; offs = 0; reached = false }
 
 -- 1 for a note that got a channel
-abbrev pub got : NoteReply → ℕ
-got (Channel c) = 1
-got OutOfRange = 0
-got NoMembers = 0
+abbrev pub got : Result ℕ MemberError → ℕ
+got (Ok c) = 1
+got (Err member_error.OutOfRange) = 0
+got (Err member_error.NoMembers) = 0
 
 -- 1 for a count above 0
 abbrev pub one_if_held : ℕ → ℕ

@@ -1,18 +1,17 @@
 -- Which channel a note got, as the two sentences of document 01, "The sending side", have it, with the tie of document 02, 2026-03.
-use Rattle.std.specs.Prelude.{◌≡◌, ℕ, ◌+◌, ◌%◌, ◌<◌, ◌≤◌, true, ◌⊎◌}
+use Rattle.std.specs.Prelude.{◌≡◌, ℕ, ◌+◌, ◌%◌, ◌<◌, ◌≤◌, true, ◌⊎◌, Result, Ok}
 use Rattle.mpe_layout.specs.Layout.{members_of, lowest_of, role_of}
 use Rattle.mpe_layout.specs.declared.MpeZone.{MpeZone}
 use Rattle.mpe_layout.specs.declared.MpeZone.TheVariants.{Lower, Upper}
 use Rattle.mpe_layout.specs.declared.MpeRole.TheVariants.{Member}
 use Rattle.mpe_layout.specs.declared.MpeLayout.{MpeLayout}
 use Rattle.mpe_allocator.specs.declared.MpeNoteAllocator.{MpeNoteAllocator}
-use Rattle.mpe_allocator.specs.declared.NoteReply.{NoteReply}
-use Rattle.mpe_allocator.specs.declared.NoteReply.TheVariants.{Channel}
+use Rattle.mpe_layout.specs.declared.MemberError.{MemberError}
 use Rattle.mpe_allocator.specs.Choice.{held_on, last_on, released_on, mark_of, recalls_on, Foremost, Chosen}
 
 -- a fact of the channel that a note got
-abbrev pub OfChannel : NoteReply → (ℕ → Type 0) → Type 0
-OfChannel reply fact = (c : ℕ) → reply ≡ Channel c → fact c
+abbrev pub OfChannel : Result ℕ MemberError → (ℕ → Type 0) → Type 0
+OfChannel reply fact = (c : ℕ) → reply ≡ Ok c → fact c
 
 -- a member, by its number
 abbrev pub MemberOf : MpeLayout → MpeZone → ℕ → Type 0

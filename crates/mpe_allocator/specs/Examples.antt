@@ -1,9 +1,9 @@
 -- Calls on an allocator and the answers to them, as one table: the examples of document 02, 2026-03, and the rules of document 01, "The sending side".
-use Rattle.std.specs.Prelude.{◌≡◌, ℕ, true, false, List, [], ◌∷◌, map, replicate, slice_set}
+use Rattle.std.specs.Prelude.{◌≡◌, ℕ, true, false, List, [], ◌∷◌, map, replicate, slice_set, Ok, Err}
 use Rattle.mpe_layout.specs.Layout.{layout_of}
 use Rattle.mpe_layout.specs.declared.MpeZone.TheVariants.{Lower, Upper}
 use Rattle.mpe_allocator.specs.declared.MpeNoteAllocator.{MpeNoteAllocator}
-use Rattle.mpe_allocator.specs.declared.NoteReply.TheVariants.{Channel, OutOfRange, NoMembers}
+use Rattle.mpe_layout.specs.declared.MemberError.TheVariants as member_error
 use Rattle.mpe_allocator.specs.Allocator.{emptied}
 use Rattle.mpe_allocator.specs.Calls.{AllocatorCall, note_on, note_off, active_notes, same_note, set_same_note, reset, AllocatorAnswer, note_reply, count, option, nothing, answer_of, after_call}
 
@@ -37,7 +37,7 @@ abbrev upper8 : ℕ → AllocatorCall
 upper8 note = note_on (layout_of 0 8) Upper note
 
 abbrev on : ℕ → AllocatorAnswer
-on channel = note_reply (Channel channel)
+on channel = note_reply (Ok channel)
 
 -- same-note on; note 60 was the last of channels 1, 2, 13 and 14, and they were released at the same clock
 abbrev released_together : MpeNoteAllocator
@@ -95,7 +95,7 @@ allocator_table =
     -- a reset keeps the option
     ∷ example (emptied false) (set_same_note true ∷ lower2 60 ∷ reset ∷ same_note ∷ active_notes 1 ∷ []) (nothing ∷ on 1 ∷ nothing ∷ option true ∷ count 0 ∷ [])
     -- an illegal layout, and a zone without members
-    ∷ example (emptied false) (note_on (layout_of 8 7) Upper 60 ∷ note_on (layout_of 3 0) Upper 60 ∷ []) (note_reply OutOfRange ∷ note_reply NoMembers ∷ [])
+    ∷ example (emptied false) (note_on (layout_of 8 7) Upper 60 ∷ note_on (layout_of 3 0) Upper 60 ∷ []) (note_reply (Err member_error.OutOfRange) ∷ note_reply (Err member_error.NoMembers) ∷ [])
     ∷ []
 
 -- each list of calls of the table gets the answers beside it

@@ -1,11 +1,10 @@
 -- Where notes go that are played into an empty allocator: a zone fills from its manager (document 02, 2026-03).
-use Rattle.std.specs.Prelude.{◌≡◌, ℕ, ◌+◌, ◌-◌, ◌<◌, true, List, [], ◌∷◌, length}
+use Rattle.std.specs.Prelude.{◌≡◌, ℕ, ◌+◌, ◌-◌, ◌<◌, true, List, [], ◌∷◌, length, Ok}
 use Rattle.mpe_layout.specs.Layout.{legal, members_of}
 use Rattle.mpe_layout.specs.declared.MpeZone.{MpeZone}
 use Rattle.mpe_layout.specs.declared.MpeZone.TheVariants.{Lower, Upper}
 use Rattle.mpe_layout.specs.declared.MpeLayout.{MpeLayout}
 use Rattle.mpe_allocator.specs.declared.MpeNoteAllocator.{MpeNoteAllocator}
-use Rattle.mpe_allocator.specs.declared.NoteReply.TheVariants.{Channel}
 use Rattle.mpe_allocator.specs.Calls.{AllocatorCall, note_on, note_reply, answer_of, after_calls}
 
 -- the member at a place from the manager, the nearest at 0: Lower counts up from channel 1, Upper down from channel 14
@@ -24,4 +23,4 @@ FillsFromManager empty =
     (l : MpeLayout) (zone : MpeZone) (notes : List ℕ) (note : ℕ) →
     legal l ≡ true →
     length notes < members_of l zone →
-    answer_of (after_calls empty (note_ons l zone notes)) (note_on l zone note) ≡ note_reply (Channel (from_manager zone (length notes)))
+    answer_of (after_calls empty (note_ons l zone notes)) (note_on l zone note) ≡ note_reply (Ok (from_manager zone (length notes)))

@@ -1,9 +1,8 @@
 -- What a note-on and a note-off leave on each channel, after whatever calls on a new allocator (document 01, "The sending side").
-use Rattle.std.specs.Prelude.{◌≡◌, ℕ, ◌+◌, ◌%◌, ◌<◌, min, List, ◌≢◌}
+use Rattle.std.specs.Prelude.{◌≡◌, ℕ, ◌+◌, ◌%◌, ◌<◌, min, List, ◌≢◌, Ok}
 use Rattle.mpe_layout.specs.declared.MpeZone.{MpeZone}
 use Rattle.mpe_layout.specs.declared.MpeLayout.{MpeLayout}
 use Rattle.mpe_allocator.specs.declared.MpeNoteAllocator.{MpeNoteAllocator}
-use Rattle.mpe_allocator.specs.declared.NoteReply.TheVariants.{Channel}
 use Rattle.mpe_allocator.specs.Choice.{held_on, last_on, released_on}
 use Rattle.mpe_allocator.specs.Calls.{AllocatorCall, note_on, note_off, note_reply, answer_of, after_call, after_calls}
 
@@ -29,7 +28,7 @@ pub record NoteReleased (a after : MpeNoteAllocator) (c : ℕ) : Type 0 where
 
 -- each note-on that gets a channel and each note-off, its channel taken modulo 16; one that meets no note changes nothing
 pub record CallsStore (a : MpeNoteAllocator) : Type 0 where
-  pub stored : (l : MpeLayout) (zone : MpeZone) (note c : ℕ) → answer_of a (note_on l zone note) ≡ note_reply (Channel c) → NoteStored a (after_call a (note_on l zone note)) note c
+  pub stored : (l : MpeLayout) (zone : MpeZone) (note c : ℕ) → answer_of a (note_on l zone note) ≡ note_reply (Ok c) → NoteStored a (after_call a (note_on l zone note)) note c
   pub released : (channel : ℕ) → 0 < held_on a (channel % 16) → NoteReleased a (after_call a (note_off channel)) (channel % 16)
   pub unmet : (channel : ℕ) → held_on a (channel % 16) ≡ 0 → after_call a (note_off channel) ≡ a
 

@@ -4,17 +4,19 @@
 ghost use Rattle.std.specs.Prelude.{◌≡◌, ◌+◌, ◌-◌, ◌*◌, ◌<◌, ◌≤◌, false};
 ghost use Rattle.ump.specs.Packet.{packet_value};
 ghost use Rattle.ump.specs.Choice.{when◌then◌else◌};
+ghost use Rattle.mpe_layout.specs.Layout.{member_found};
 ghost use Rattle.mpe_allocator.specs.Choice.{held_on, tie_first, smaller_first, recalls};
-ghost use Rattle.mpe_allocator.specs.Allocator.{emptied, note_reply_read, one_more, Placed, AllocatedAs, allocation_of, tick, without_note, with_option};
+ghost use Rattle.mpe_allocator.specs.Allocator.{emptied, Placed, AllocatedAs, allocation_of, without_note, with_option};
 ghost use Rattle.mpe_allocator.specs.Calls.{note_on, note_off, active_notes, same_note, set_same_note, reset, note_reply, count, option, nothing, CallGives, CountsSum};
 ghost use Rattle.mpe_allocator.specs.Examples.{AllocatesAsTabled};
 ghost use Rattle.mpe_allocator.specs.Stored.{AlwaysStored};
 ghost use Rattle.mpe_allocator.specs.Filling.{FillsFromManager};
 ghost use Rattle.mpe_allocator.specs.Claims.{OfChannel, ChosenIsMember, OneChosen, RecallChosen, LeastChosen, OnlyTiesTurned};
 
-use mpe_layout::{LowestMember, Members, MpeLayout, MpeZone};
+use mpe_layout::{MemberError, MpeLayout, MpeZone};
 
 // For each channel the count of held notes, the last note (0x80 added, 0 for none) and the clock at the last release (M1-100 A.3).
+// Three arrays, and not one of records: `CountsSum` sums the counts as one list, and a record of 8 bytes would lengthen the value by a third.
 #[derive(Clone, Copy)]
 pub struct MpeNoteAllocator {
     pub active: [u8; 16],
@@ -25,23 +27,16 @@ pub struct MpeNoteAllocator {
     pub same_note: bool,
 }
 
-// What a new note gets.
-#[derive(Clone, Copy)]
-pub enum NoteReply {
-    Channel(u8),
-    OutOfRange,
-    NoMembers,
-}
-
 // The allocator after `note_on`, and its answer.
 #[derive(Clone, Copy)]
 pub struct Allocation {
     pub allocator: MpeNoteAllocator,
-    pub reply: NoteReply,
+    pub reply: Result<u8, MemberError>,
 }
 
 // Of two members that tie, the one nearer to the manager goes first: in Lower the lower, in Upper the higher.
-fn wins_tie(zone: MpeZone, c: u64, b: u64) -> bool
+#[tactic(auto, unfolding(crate::specs::Choice::tie_first))]
+fn wins_tie(zone: MpeZone, c: usize, b: usize) -> bool
     ensures { result ≡ tie_first zone c b }
 {
     match zone {
@@ -51,26 +46,19 @@ fn wins_tie(zone: MpeZone, c: u64, b: u64) -> bool
 }
 
 // The smaller number goes first, and equal ones leave it to the rest.
+#[tactic(auto, unfolding(crate::specs::Choice::smaller_first))]
 fn smaller_first(x: u64, y: u64, rest: bool) -> bool
     ensures { result ≡ smaller_first x y rest }
 {
-    if x == y {
-        return rest;
-    }
-    x < y
+    x < y || x == y && rest
 }
 
 // A free channel whose last note is this one, under the same-note option.
+#[tactic(auto, unfolding(crate::specs::Choice::recalls))]
 fn is_recall(option: bool, held: u8, last: u8, mark: u8) -> bool
     ensures { result ≡ recalls option held last mark }
 {
-    if option {
-        if held == 0 {
-            return last == mark;
-        }
-        return false;
-    }
-    false
+    option && held == 0 && last == mark
 }
 
 // The rank of a member for a note: the smaller goes first. Those that recall the note have the ranks below 4,294,967,296, the later their release the
@@ -80,36 +68,10 @@ fn rank(recall: bool, held: u8, released: u32) -> u64
     ensures within { (released < 4294967296) × (result < 18446744073709551615) }
 {
     if recall {
-        return (4294967295 - released) as u64;
+        (u32::MAX - released) as u64
+    } else {
+        4294967296 * (held as u64 + 1) + released as u64
     }
-    4294967296 * (held as u64 + 1) + released as u64
-}
-
-// The first of two numbers where the test holds, else the second.
-fn pick(test: bool, x: u64, y: u64) -> u64
-    ensures { result ≡ (when test then x else y) }
-{
-    if test {
-        return x;
-    }
-    y
-}
-
-// One more, and no more than 255.
-fn one_more(held: u8) -> u8
-    ensures { result ≡ one_more held }
-{
-    if held == 255 {
-        return 255;
-    }
-    held + 1
-}
-
-// The release clock, a step later: from 4,294,967,295 to 0.
-fn ticked(clock: u32) -> u32
-    ensures { result ≡ tick clock }
-{
-    std::num::wrapping_add_u32(clock, 1)
 }
 
 impl MpeNoteAllocator {
@@ -130,33 +92,29 @@ impl MpeNoteAllocator {
         ensures { Placed self zone mark first end result }
     {
         // The best channel so far and its rank; no rank is as large as the number that the search begins with.
-        let mut best = first as u64;
-        let mut least: u64 = 18446744073709551615;
-        let mut c = first;
-        while c < end {
+        let mut best = first;
+        let mut least = u64::MAX;
+        for c in first..end {
             let held = self.active[c];
             let recall = is_recall(self.same_note, held, self.last_note[c], mark);
             let next = rank(recall, held, self.last_off[c]);
-            let goes_first = smaller_first(next, least, wins_tie(zone, c as u64, best));
-            best = pick(goes_first, c as u64, best);
-            least = pick(goes_first, next, least);
-            c += 1;
+            if smaller_first(next, least, wins_tie(zone, c, best)) {
+                best = c;
+                least = next;
+            }
         }
-        let chosen = best as usize;
-        let more = one_more(self.active[chosen]);
         let mut a = self;
-        a.active[chosen] = more;
-        a.last_note[chosen] = mark;
-        let channel = best as u8;
+        a.active[best] = self.active[best].saturating_add(1);
+        a.last_note[best] = mark;
         Allocation {
             allocator: a,
-            reply: NoteReply::Channel(channel),
+            reply: Ok(best as u8),
         }
     }
 
     // A member of `zone` for a new note, held there from now on (1.5.1, 2.2.4.1, A.3). A note is taken modulo 128.
     pub fn note_on(self, layout: MpeLayout, zone: MpeZone, note: u8) -> Allocation
-        ensures chosen { AllocatedAs self layout zone note (note_reply_read result.reply) result.allocator }
+        ensures chosen { AllocatedAs self layout zone note (member_found result.reply) result.allocator }
         ensures is { result ≡ allocation_of self layout zone note }
         ensures listed { CallGives self (note_on layout zone note) (note_reply result.reply) result.allocator }
         ensures member { OfChannel result.reply (ChosenIsMember layout zone) }
@@ -166,40 +124,31 @@ impl MpeNoteAllocator {
         ensures turned { OfChannel result.reply (OnlyTiesTurned self layout zone note) }
     {
         match layout.lowest_member(zone) {
-            LowestMember::OutOfRange => Allocation {
+            Err(refusal) => Allocation {
                 allocator: self,
-                reply: NoteReply::OutOfRange,
+                reply: Err(refusal),
             },
-            LowestMember::NoMembers => Allocation {
-                allocator: self,
-                reply: NoteReply::NoMembers,
-            },
-            LowestMember::Channel(first) => match layout.members(zone) {
-                Members::OutOfRange => Allocation {
-                    allocator: self,
-                    reply: NoteReply::OutOfRange,
-                },
-                Members::Count(n) => {
-                    let end = first as usize + n as usize;
-                    self.place(zone, 0x80 + note % 128, first as usize, end)
-                }
-            },
+            Ok(first) => {
+                // A zone with a lowest member has a member count.
+                let end = first + layout.members(zone).unwrap();
+                self.place(zone, 0x80 + note % 128, first as usize, end as usize)
+            }
         }
     }
 
     // A note on `channel` ended. A channel without a held note changes nothing.
+    #[tactic(auto, unfolding(crate::specs::Allocator::without_note))]
     pub fn note_off(self, channel: u8) -> MpeNoteAllocator
         ensures is { result ≡ without_note self (packet_value channel) }
         ensures listed { CallGives self (note_off channel) nothing result }
     {
         let c = (channel % 16) as usize;
-        let held = self.active[c];
-        if held == 0 {
+        if self.active[c] == 0 {
             return self;
         }
-        let clock = ticked(self.clock);
+        let clock = self.clock.wrapping_add(1);
         let mut a = self;
-        a.active[c] = held - 1;
+        a.active[c] -= 1;
         a.last_off[c] = clock;
         a.clock = clock;
         a
