@@ -5,6 +5,8 @@ use Rattle.translate_state.specs.State.{new_record}
 use Rattle.translate.specs.Lists.{Formed}
 use Rattle.translate.specs.Rules.{NoNumberRules, TranslatedByRules}
 use Rattle.translate.proofs.Entries.{registered-entries, registered-entries-lsb-first, assignable-entries, assignable-entries-lsb-first, registered-null-entries, assignable-null-entries, mcm-entries, mcm-entries-lsb-first, null-after-flush, half-after-flush, null-rules-reset, null-rules-38, null-rules-6, null-rules-flushed, msb-ended, other-kept-registered, other-kept-assignable, without-number, with-half}
+use Rattle.translate.proofs.Exact.{exactly-accepted}
+use Rattle.translate.proofs.Refused.{others-refused}
 use Rattle.translate.proofs.Passing.{passing-rules, bank-rules, others_kept, others-kept-flushed, same-record}
 
 pub translated-by-rules : (r : Midi1ToMidi2Group) → Formed r → TranslatedByRules r
@@ -42,3 +44,6 @@ no-number-rules =
       no_number = λ g c x y hg hc hx hy. without-number g c x y hg hc hx hy;
       half_number = λ g c n v x y hg hc l h hv hx hy. with-half g c x y hg hc hx hy v hv n l h;
     }
+
+-- what `translate_words` promises of lists of messages
+pub ruleset promised = (exactly-accepted, others-refused, translated-by-rules, no-number-rules)

@@ -9,6 +9,8 @@ use Rattle.scale.specs.Scale.{widened, zero_extended}
 use Rattle.translate_state.specs.declared.ChannelState.{ChannelState}
 use Rattle.translate_state.specs.declared.Midi1ToMidi2Group.{Midi1ToMidi2Group}
 use Rattle.ump.specs.declared.reply.OutOfRange.{OutOfRange}
+use Rattle.translate.specs.declared.Opcode.{Opcode}
+use Rattle.translate.specs.declared.Opcode.TheVariants.{RegisteredController, AssignableController, NoteOff, NoteOn, PolyPressure, ControlChange, ProgramChange, ChannelPressure, PitchBend}
 use Rattle.translate.specs.declared.Stepped.{Stepped}
 use Rattle.translate_state.specs.State.{held, value_in, kind_in, pending_in, null_after_in, state_on, record_allowed, pending_sent, selected, mcm_selected, entry_held, completed, controllers_reset, bank_msb_held, bank_lsb_held, bank_sent}
 
@@ -21,6 +23,18 @@ words_in None = []
 abbrev pub translation_read : Result (Option (List ℕ)) OutOfRange → Outcome (List ℕ)
 translation_read (Ok words) = given (words_in words)
 translation_read (Err e) = out_of_range
+
+-- the number of an opcode (M2-104 7.4)
+abbrev pub opcode_number : Opcode → ℕ
+opcode_number RegisteredController = 0x2
+opcode_number AssignableController = 0x3
+opcode_number NoteOff = 0x8
+opcode_number NoteOn = 0x9
+opcode_number PolyPressure = 0xA
+opcode_number ControlChange = 0xB
+opcode_number ProgramChange = 0xC
+opcode_number ChannelPressure = 0xD
+opcode_number PitchBend = 0xE
 
 -- two words
 abbrev pub word_pair : ℕ → ℕ → Option (List ℕ)
