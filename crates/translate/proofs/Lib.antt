@@ -1,4 +1,5 @@
 -- Laws that proofs of this crate and of those above it cite.
+pub mod Bits
 pub mod Each
 pub mod Given
 pub mod Refused

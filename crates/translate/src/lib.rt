@@ -11,8 +11,8 @@ ghost use Rattle.translate.specs.Rules.{NoNumberRules, TranslatedByRules};
 mod channel;
 
 use channel::{
-    HELD_NULL, bank_sent, complete, enter, hold_bank_lsb, hold_bank_msb, mcm, pending_sent,
-    reset_controllers, select,
+    HELD_NULL, NULL_AFTER, PENDING, bank_sent, bit_in, complete, enter, hold_bank_lsb,
+    hold_bank_msb, mcm, pending_sent, reset_controllers, select,
 };
 use scale::{upscale, zero_extend_upscale};
 use translate_state::{ChannelState, Midi1ToMidi2Group};
@@ -179,7 +179,7 @@ impl MidiChannel {
     fn pending_words(self) -> Option<[u32; 2]>
         ensures { result ≡ pending_words self.group self.channel self.state }
     {
-        if self.state.flags / 4 % 2 == 1 && self.state.data_msb != 0 {
+        if bit_in(self.state.flags, PENDING) && self.state.data_msb != 0 {
             return self.controller(joined_value(self.state.data_msb - 1, 0));
         }
         None
@@ -210,7 +210,7 @@ impl MidiChannel {
         ensures { result ≡ lsb_entered self.group self.channel self.state value }
     {
         let state = self.state;
-        if state.flags / 8 % 2 == 1 {
+        if bit_in(state.flags, NULL_AFTER) {
             return step_of(pending_sent(state), self.pending_words());
         }
         if state.data_msb == 0 {
