@@ -15,6 +15,7 @@ use Rattle.mpe_pitch.proofs.Order.{widen}
 use Rattle.mpe_pitch.proofs.Offset.{offset-within, sum-within}
 use Rattle.mpe_receiver.specs.declared.MpeReceiver.{MpeReceiver}
 use Rattle.mpe_zones.specs.Zones.{role_held}
+use Rattle.mpe_receiver.proofs.Ratio.{pair-offset, pair-none}
 use Rattle.mpe_receiver.specs.Read.{bend_at, sensitivity_of, manager_offset, member_offset, offset_by_role, offset_of}
 
 by-role : (r : MpeReceiver) (c : ℕ) (role : MpeRole) (z : ℤ) → offset_by_role r c role ≡ given z → Within 2565714 2565400 z
@@ -32,3 +33,5 @@ by-role r c (Member zone) z e =
 
 pub offset-range : (r : MpeReceiver) (c : ℕ) (z : ℤ) → offset_of r c ≡ given z → Within 2565714 2565400 z
 offset-range r c z e = by-role r c (role_held r.layout c) z e
+
+pub ruleset ranges = (offset-range, pair-offset, pair-none)

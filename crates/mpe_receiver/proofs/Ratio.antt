@@ -6,7 +6,7 @@ use mathlib.Core.Bool.{Bool, true, false}
 use lib.ListN.{get_or}
 use native.Mathlib.Omega.{arith}
 use Rattle.ump.specs.Choice.{when◌then◌else◌}
-use Rattle.ump.specs.Outcome.{given, out_of_range, none_there}
+use Rattle.ump.specs.Outcome.{Outcome, given, out_of_range, none_there}
 use Rattle.ump.specs.Packet.{packet_value}
 use Rattle.mpe_layout.specs.declared.MpeZone.{MpeZone}
 use Rattle.mpe_layout.specs.declared.MpeZone.TheVariants.{Lower, Upper}
@@ -63,6 +63,9 @@ by-role r channel (Member zone) e =
 
 pub ratio-by-role : (r : MpeReceiver) (channel : ℕ) → RatioByRole r channel (pair_of r channel)
 ratio-by-role r channel = by-role r channel (role_held r.layout channel) refl
+
+pub ratio_of : (r : MpeReceiver) (channel : ℕ) (answer : Outcome OffsetWithRemainder) → answer ≡ pair_of r channel → RatioByRole r channel answer
+ratio_of r channel answer e = subst (RatioByRole r channel) (sym e) (ratio-by-role r channel)
 
 -- ---- the offset of what is answered
 

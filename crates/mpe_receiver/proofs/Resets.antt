@@ -15,7 +15,8 @@ use Rattle.ump.specs.Outcome.{Outcome, given, declined, out_of_range}
 use Rattle.ump.specs.Packet.{packet_value}
 use Rattle.ump.specs.Word.{opcode_of, channel_of, first_of, second_of, word_form}
 use Rattle.ump.proofs.Cases.{by-test, of-both, chosen, passed}
-use Rattle.parameters.specs.declared.MaybeEvent.{MaybeEvent}
+use Rattle.std.specs.Prelude.{Option}
+use Rattle.parameter_event.specs.declared.ParameterEvent.{ParameterEvent}
 use Rattle.mpe_layout.specs.declared.MpeLayout.{MpeLayout}
 use Rattle.mpe_layout.specs.Layout.{legal}
 use Rattle.mpe_reset.specs.Reset.{named, mask_or_zero}
@@ -79,7 +80,7 @@ is_given (given x) = true
 is_given (declined n v) = false
 
 -- what is answered is the event of a word that has the form
-reply-given : (r : MpeReceiver) (e : MaybeEvent) (event : MpeEvent) (w : ℕ) → receiver_reply r w e ≡ given event → (word_form w ≡ true) × ((received_by_word r e w).event ≡ event)
+reply-given : (r : MpeReceiver) (e : Option ParameterEvent) (event : MpeEvent) (w : ℕ) → receiver_reply r w e ≡ given event → (word_form w ≡ true) × ((received_by_word r e w).event ≡ event)
 unfolding is_given
 reply-given r e event w is =
     by-test (word_form w)
@@ -89,14 +90,14 @@ reply-given r e event w is =
     (λ h. absurd (true≢false (sym (ap is_given (sym (passed (given (received_by_word r e w).event) out_of_range h) ∙ is)))))
 
 -- a message leaves what it stored, put to rest where its event resets the channel
-word-rests : (r : MpeReceiver) (e : MaybeEvent) (w channel : ℕ) → ReceiverFormed r → word_form w ≡ true → Rested (reset_in (received_by_word r e w).event) (stored_by r w) (receiver_after r w e) channel
+word-rests : (r : MpeReceiver) (e : Option ParameterEvent) (w channel : ℕ) → ReceiverFormed r → word_form w ≡ true → Rested (reset_in (received_by_word r e w).event) (stored_by r w) (receiver_after r w e) channel
 unfolding received_by_fields
 word-rests r e w channel f t =
     let u = message_update (zones_of r) e (opcode_of w) (channel_of w) (first_of w) in
     subst (λ m. Rested (reset_in u.event) (stored_by r w) m channel) (sym (chosen _ r t))
     (rested (stored_by r w) u.zones (reset_in u.event) channel (stored-formed r (opcode_of w) (channel_of w) (first_of w) (second_of w) f))
 
-message-rests : (r : MpeReceiver) (e : MaybeEvent) (w mask channel : ℕ) → ReceiverFormed r → receiver_reply r w e ≡ given (Layout mask) → Rested mask (stored_by r w) (receiver_after r w e) channel
+message-rests : (r : MpeReceiver) (e : Option ParameterEvent) (w mask channel : ℕ) → ReceiverFormed r → receiver_reply r w e ≡ given (Layout mask) → Rested mask (stored_by r w) (receiver_after r w e) channel
 message-rests r e w mask channel f is =
     let g = reply-given r e (Layout mask) w is in
     subst (λ m. Rested m (stored_by r w) (receiver_after r w e) channel) (ap reset_in g.1) (word-rests r e w channel f g.0)
@@ -110,7 +111,7 @@ none-reset (Sensitivity z m) n = refl
 none-reset (Mode z) n = refl
 none-reset Ignored n = refl
 
-other-message-stored : (r : MpeReceiver) (e : MaybeEvent) (event : MpeEvent) (w channel : ℕ) → ReceiverFormed r → receiver_reply r w e ≡ given event → ((mask : ℕ) → event ≢ Layout mask)
+other-message-stored : (r : MpeReceiver) (e : Option ParameterEvent) (event : MpeEvent) (w channel : ℕ) → ReceiverFormed r → receiver_reply r w e ≡ given event → ((mask : ℕ) → event ≢ Layout mask)
     → Controls (receiver_after r w e) channel (bend_at (stored_by r w) channel) (pressure_at (stored_by r w) channel) (brightness_at (stored_by r w) channel)
 other-message-stored r e event w channel f is n =
     let g = reply-given r e event w is in
@@ -133,16 +134,16 @@ layout-rests r l mask channel w is =
     (rested r z mask channel w)))
     (λ h. absurd (true≢false (sym (ap is_given (sym (passed (given resets) out_of_range h) ∙ is)))))
 
-pub mask-rests : MaskRests
-mask-rests = record { of_message = message-rests; of_other_message = other-message-stored; of_layout = layout-rests }
+pub mask_rests : MaskRests
+mask_rests = record { of_message = message-rests; of_other_message = other-message-stored; of_layout = layout-rests }
 
 zones-of-chosen : (b : Bool) (x y : MpeReceiver) → zones_of (when b then x else y) ≡ (when b then zones_of x else zones_of y)
 zones-of-chosen true x y = refl
 zones-of-chosen false x y = refl
 
-pub by-zones : ByZones
+pub by_zones : ByZones
 unfolding received_by_fields
-by-zones =
+by_zones =
     record {
       replies = λ r e w. refl;
       zones_left = λ r e w. zones-of-chosen (word_form w) (received_by_word r e w).receiver r;

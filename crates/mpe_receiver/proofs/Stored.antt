@@ -42,9 +42,9 @@ other-kept r opcode k a b channel n =
     same))
     same))
 
-pub controls-stored : ControlsStored
+pub controls_stored : ControlsStored
 unfolding stored
-controls-stored =
+controls_stored =
     record {
       of_bend = λ r k a b w. record { reads_bend = put-read r.pitch_bend k _ w.bends; reads_pressure = refl; reads_brightness = refl };
       of_pressure = λ r k a b w. record { reads_bend = refl; reads_pressure = put-read r.pressure k a w.pressures; reads_brightness = refl };

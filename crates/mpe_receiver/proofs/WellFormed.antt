@@ -8,7 +8,8 @@ use lib.ListN.{length, length-set}
 use lib.Dec.{eqb}
 use Rattle.ump.specs.Word.{opcode_of, channel_of, first_of, second_of, word_form}
 use Rattle.ump.proofs.Cases.{by-test, of-both}
-use Rattle.parameters.specs.declared.MaybeEvent.{MaybeEvent}
+use Rattle.std.specs.Prelude.{Option}
+use Rattle.parameter_event.specs.declared.ParameterEvent.{ParameterEvent}
 use Rattle.mpe_layout.specs.declared.MpeLayout.{MpeLayout}
 use Rattle.mpe_layout.specs.Layout.{legal, legal_counts}
 use Rattle.mpe_reset.specs.Reset.{named}
@@ -74,13 +75,13 @@ rested-formed r z mask w v =
       lawful = v.lawful;
     }
 
-fields-formed : (r : MpeReceiver) (e : MaybeEvent) (opcode channel a b : ℕ) → ReceiverFormed r → ReceiverFormed (received_by_fields r e opcode channel a b).receiver
+fields-formed : (r : MpeReceiver) (e : Option ParameterEvent) (opcode channel a b : ℕ) → ReceiverFormed r → ReceiverFormed (received_by_fields r e opcode channel a b).receiver
 unfolding received_by_fields
 fields-formed r e opcode channel a b w =
     rested-formed (stored r opcode channel a b) _ _ (stored-formed r opcode channel a b w) (update-formed (zones_of r) (zones-formed r w) e opcode channel a)
 
 -- a message keeps a receiver well formed
-pub received-formed : (r : MpeReceiver) (word : ℕ) (e : MaybeEvent) → ReceiverFormed r → ReceiverFormed (receiver_after r word e)
+pub received-formed : (r : MpeReceiver) (word : ℕ) (e : Option ParameterEvent) → ReceiverFormed r → ReceiverFormed (receiver_after r word e)
 received-formed r word e w =
     of-both ReceiverFormed (word_form word) (fields-formed r e (opcode_of word) (channel_of word) (first_of word) (second_of word) w) w
 

@@ -4,7 +4,8 @@ use Rattle.ump.specs.Choice.{when◌then◌else◌}
 use Rattle.ump.specs.Outcome.{given}
 use Rattle.ump.specs.Packet.{packet_value}
 use Rattle.ump.specs.Word.{opcode_of, channel_of, first_of, second_of, word_form}
-use Rattle.parameters.specs.declared.MaybeEvent.{MaybeEvent}
+use Rattle.std.specs.Prelude.{Option}
+use Rattle.parameter_event.specs.declared.ParameterEvent.{ParameterEvent}
 use Rattle.mpe_layout.specs.declared.MpeLayout.{MpeLayout}
 use Rattle.mpe_layout.specs.Layout.{legal}
 use Rattle.mpe_reset.specs.Reset.{named, layout_mask}
@@ -36,16 +37,16 @@ stored_by r w = stored r (opcode_of w) (channel_of w) (first_of w) (second_of w)
 
 -- a message that is answered with a mask, its control stored first; any other message, which leaves what it stored; and a layout that is set
 pub record MaskRests : Type 0 where
-  pub of_message : (r : MpeReceiver) (e : MaybeEvent) (w mask channel : ℕ) → ReceiverFormed r → receiver_reply r w e ≡ given (Layout mask) → Rested mask (stored_by r w) (receiver_after r w e) channel
-  pub of_other_message : (r : MpeReceiver) (e : MaybeEvent) (event : MpeEvent) (w channel : ℕ) → ReceiverFormed r → receiver_reply r w e ≡ given event → ((mask : ℕ) → event ≢ Layout mask) → Controls (receiver_after r w e) channel (bend_at (stored_by r w) channel) (pressure_at (stored_by r w) channel) (brightness_at (stored_by r w) channel)
+  pub of_message : (r : MpeReceiver) (e : Option ParameterEvent) (w mask channel : ℕ) → ReceiverFormed r → receiver_reply r w e ≡ given (Layout mask) → Rested mask (stored_by r w) (receiver_after r w e) channel
+  pub of_other_message : (r : MpeReceiver) (e : Option ParameterEvent) (event : MpeEvent) (w channel : ℕ) → ReceiverFormed r → receiver_reply r w e ≡ given event → ((mask : ℕ) → event ≢ Layout mask) → Controls (receiver_after r w e) channel (bend_at (stored_by r w) channel) (pressure_at (stored_by r w) channel) (brightness_at (stored_by r w) channel)
   pub of_layout : (r : MpeReceiver) (l : MpeLayout) (mask channel : ℕ) → ReceiverFormed r → set_reply r l ≡ given mask → Rested mask r (set_state r l) channel
 
 -- the reply to a message and the zones after it are those of the receiver's zones, and so for a layout that is set, where a legal one is answered with
 -- the mask of every channel that has a role before or after; what is declined leaves the receiver
 pub record ByZones : Type 0 where
-  pub replies : (r : MpeReceiver) (e : MaybeEvent) (w : ℕ) → receiver_reply r w e ≡ zones_reply (zones_of r) w e
-  pub zones_left : (r : MpeReceiver) (e : MaybeEvent) (w : ℕ) → zones_of (receiver_after r w e) ≡ zones_after (zones_of r) w e
-  pub declined_left : (r : MpeReceiver) (e : MaybeEvent) (w : ℕ) → word_form w ≡ false → receiver_after r w e ≡ r
+  pub replies : (r : MpeReceiver) (e : Option ParameterEvent) (w : ℕ) → receiver_reply r w e ≡ zones_reply (zones_of r) w e
+  pub zones_left : (r : MpeReceiver) (e : Option ParameterEvent) (w : ℕ) → zones_of (receiver_after r w e) ≡ zones_after (zones_of r) w e
+  pub declined_left : (r : MpeReceiver) (e : Option ParameterEvent) (w : ℕ) → word_form w ≡ false → receiver_after r w e ≡ r
   pub set_replies : (r : MpeReceiver) (l : MpeLayout) → set_reply r l ≡ zones_set_reply (zones_of r) l
   pub set_mask : (r : MpeReceiver) (l : MpeLayout) → ReceiverFormed r → legal l ≡ true → set_reply r l ≡ given (layout_mask r.layout l)
   pub set_zones : (r : MpeReceiver) (l : MpeLayout) → zones_of (set_state r l) ≡ zones_set (zones_of r) l

@@ -12,10 +12,6 @@ use Rattle.mpe_pitch.specs.declared.OffsetWithRemainder.{OffsetWithRemainder}
 use Rattle.mpe_pitch.specs.Pitch.{pitch_offset}
 use Rattle.mpe_pitch.specs.Remainder.{offset_with_remainder, sum_of}
 use Rattle.mpe_receiver.specs.declared.MpeReceiver.{MpeReceiver}
-use Rattle.mpe_receiver.specs.declared.Offset.{Offset}
-use Rattle.mpe_receiver.specs.declared.Offset.TheVariants as offset
-use Rattle.mpe_receiver.specs.declared.OffsetPair.{OffsetPair}
-use Rattle.mpe_receiver.specs.declared.OffsetPair.TheVariants as pair
 use Rattle.mpe_zones.specs.Zones.{mono_of, role_held}
 use Rattle.mpe_zones.specs.Zones as zones
 use Rattle.mpe_receiver.specs.State.{zones_of}
@@ -52,10 +48,6 @@ offset_by_role r channel (role.Member zone) = given (member_offset r zone channe
 abbrev pub offset_of : MpeReceiver → ℕ → Outcome ℤ
 offset_of r channel = offset_by_role r channel (role_held r.layout channel)
 
-abbrev pub offset_read : Offset → Outcome ℤ
-offset_read (offset.Offset z) = given z
-offset_read offset.NoRole = none_there
-
 -- document 02, 2026-04: the same with the remainder; for a member the manager's offset and remainder are added in
 unfoldable pub manager_pair : MpeReceiver → MpeZone → OffsetWithRemainder
 manager_pair r zone = offset_with_remainder (bend_at r (manager_of zone)) (sensitivity_of r zone true)
@@ -71,7 +63,3 @@ pair_by_role r channel (role.Member zone) = given (member_pair r zone channel)
 
 abbrev pub pair_of : MpeReceiver → ℕ → Outcome OffsetWithRemainder
 pair_of r channel = pair_by_role r channel (role_held r.layout channel)
-
-abbrev pub pair_read : OffsetPair → Outcome OffsetWithRemainder
-pair_read (pair.Pair p) = given p
-pair_read pair.NoRole = none_there

@@ -3,7 +3,8 @@ use Rattle.std.specs.Prelude.{ℕ, zero, suc, ◌+◌, ◌*◌, Bool, List, set,
 use Rattle.ump.specs.Choice.{when◌then◌else◌}
 use Rattle.ump.specs.Outcome.{Outcome, given, out_of_range}
 use Rattle.ump.specs.Word.{opcode_of, channel_of, first_of, second_of, word_form}
-use Rattle.parameters.specs.declared.MaybeEvent.{MaybeEvent}
+use Rattle.std.specs.Prelude.{Option}
+use Rattle.parameter_event.specs.declared.ParameterEvent.{ParameterEvent}
 use Rattle.mpe_layout.specs.declared.MpeLayout.{MpeLayout}
 use Rattle.mpe_layout.specs.Layout.{legal}
 use Rattle.mpe_reset.specs.Reset.{named}
@@ -47,17 +48,17 @@ abbrev pub with_update : MpeReceiver → ZonesUpdate → ReceiverUpdate
 with_update r t = receiver_update (rest_upto (with_zones r t.zones) (reset_in t.event) 16) t.event
 
 -- a message whose fields are cut: first its control is stored, then the zones are updated
-unfoldable pub received_by_fields : MpeReceiver → MaybeEvent → ℕ → ℕ → ℕ → ℕ → ReceiverUpdate
+unfoldable pub received_by_fields : MpeReceiver → Option ParameterEvent → ℕ → ℕ → ℕ → ℕ → ReceiverUpdate
 received_by_fields r e opcode channel a b = with_update (stored r opcode channel a b) (message_update (zones_of r) e opcode channel a)
 
-abbrev pub received_by_word : MpeReceiver → MaybeEvent → ℕ → ReceiverUpdate
+abbrev pub received_by_word : MpeReceiver → Option ParameterEvent → ℕ → ReceiverUpdate
 received_by_word r e w = received_by_fields r e (opcode_of w) (channel_of w) (first_of w) (second_of w)
 
 -- what `receive` answers, by document 01's numbers, and the receiver after it
-abbrev pub receiver_reply : MpeReceiver → ℕ → MaybeEvent → Outcome MpeEvent
+abbrev pub receiver_reply : MpeReceiver → ℕ → Option ParameterEvent → Outcome MpeEvent
 receiver_reply r w e = when word_form w then given (received_by_word r e w).event else out_of_range
 
-abbrev pub receiver_after : MpeReceiver → ℕ → MaybeEvent → MpeReceiver
+abbrev pub receiver_after : MpeReceiver → ℕ → Option ParameterEvent → MpeReceiver
 receiver_after r w e = when word_form w then (received_by_word r e w).receiver else r
 
 -- a layout that the application sets (M1-100 2.2.2, 2.2.3)

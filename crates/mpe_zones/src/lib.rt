@@ -19,7 +19,7 @@ pub struct Zones {
     pub layout: MpeLayout,
     pub lower_mono: bool,
     pub upper_mono: bool,
-    // Semitones and cents, by `slot`. Eight flat bytes, and no array of pairs: they are a part of End, which is lent to firmware (bench_lent_c), byte for byte.
+    // Semitones and cents, by `slot`: the eight flat bytes of the receiver's own field, which is a part of End (bench_lent_c).
     pub sensitivity: [u8; 8],
 }
 
