@@ -1,7 +1,8 @@
 -- The columns of a line say their numbers.
 -- Assumes nothing.
 use Prim.Native.Nat.{ℕ, suc}
-use mathlib.Core.Path.{refl}
+use mathlib.Core.Path.{◌≡◌, refl}
+use mathlib.Core.List.{List}
 use mathlib.Core.Bool.{Bool, true, false}
 use lib.IntN.{ℤ, pos, negsuc}
 use Rattle.mpe_pitch.specs.declared.MpeSensitivity.{MpeSensitivity}
@@ -35,3 +36,7 @@ columns-read s value remainder =
       rest_read = rest-read-back (pitch_remainder value s) remainder;
       text_is = refl;
     }
+
+-- what is the text of a line is read so
+pub text-read : (s : MpeSensitivity) (value : ℕ) (remainder : Bool) (text : List ℕ) → text ≡ sweep_line s value remainder → ColumnsRead s value remainder text
+text-read s value remainder text e = rw e (columns-read s value remainder)

@@ -43,12 +43,15 @@ pub last-first : (n : ℕ) (text : List ℕ) → 10 ≤ n → decimal n ++ text 
 last-first n text h = ap (λ (x : List ℕ). x ++ text) (more-digits n h) ∙ append_assoc (decimal (n / 10)) ((0x30 + n % 10) ∷ []) text
 
 -- a number of two digits or more has one more than its tenth
-pub one_fewer : (n k : ℕ) → 10 ≤ n → n < 10 ^ k → (2 ≤ k) × (n / 10 < 10 ^ (k - 1))
-one_fewer n zero h l = absurd (omega arith)
-one_fewer n (suc zero) h l = absurd (omega arith)
-one_fewer n (suc (suc k)) h l =
-    let e : suc (suc k) - 1 ≡ suc k = omega arith in
-    (omega arith, rw e (omega (arith, pow-suc 10 (suc k))))
+pub tenth-below : (n k j : ℕ) → 10 ≤ n → n < 10 ^ j → j ≡ suc k → n / 10 < 10 ^ k
+tenth-below n k j h l e = let l = rw e at l in omega (arith, pow-suc 10 k)
+
+pub two-digits : (n j : ℕ) → 10 ≤ n → n < 10 ^ j → 2 ≤ j
+two-digits n zero h l = absurd (omega arith)
+two-digits n (suc zero) h l = absurd (omega arith)
+two-digits n (suc (suc j)) h l = omega arith
+
+pub ruleset digit_by_digit = (one-digit, last-first, tenth-below, two-digits)
 
 -- what holds of one digit, and of more where it holds of those before the last
 along : (P : ℕ → List ℕ → Type 0) → ((n : ℕ) → n < 10 → P n ((0x30 + n) ∷ [])) → ((n : ℕ) (text : List ℕ) → 10 ≤ n → P (n / 10) text → P n (text ++ ((0x30 + n % 10) ∷ []))) → (n : ℕ) → P n (decimal n)

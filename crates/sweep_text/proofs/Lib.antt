@@ -2,4 +2,3 @@
 pub mod Digits
 pub mod Columns
 pub mod Lines
-pub mod Texts

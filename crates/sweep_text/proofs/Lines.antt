@@ -6,6 +6,6 @@ use Rattle.mpe_pitch.specs.Remainder.{pitch_remainder}
 use Rattle.sweep_text.specs.Decimal.{digits_in}
 use Rattle.sweep_text.specs.Claims.{line_table, LinesAsTabled}
 
-pub lines-as-tabled : LinesAsTabled
+pub tabled : LinesAsTabled
 unfolding pitch_offset pitch_remainder digits_in line_table
-lines-as-tabled = refl
+tabled = refl

@@ -3,7 +3,7 @@ use Rattle.std.specs.Prelude.{ℕ, ◌≤◌, ◌≡◌, Bool, true, false, List
 use Rattle.mpe_pitch.specs.declared.MpeSensitivity.{MpeSensitivity}
 use Rattle.mpe_pitch.specs.Pitch.{pitch_offset}
 use Rattle.mpe_pitch.specs.Remainder.{pitch_remainder}
-use Rattle.sweep_text.specs.declared.LineText.{LineText}
+use Rattle.sweep_text.specs.declared.line_text.LineText.{LineText}
 use Rattle.sweep_text.specs.Decimal.{decimal, signed_decimal}
 
 abbrev pub text_of : LineText → List ℕ
@@ -12,10 +12,6 @@ text_of t = drop t.from t.bytes
 -- 64 bytes, and before the text nothing but line ends
 abbrev pub Filled : LineText → Type 0
 Filled t = (t.from ≤ 64) × (length t.bytes ≡ 64) × (take t.from t.bytes ≡ replicate t.from 0x0A)
-
--- of these line ends there are at least so many
-abbrev pub Room : ℕ → LineText → Type 0
-Room n t = (n ≤ t.from) × Filled t
 
 abbrev pub line_end : List ℕ
 line_end = 0x0A ∷ []
