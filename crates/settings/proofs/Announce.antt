@@ -11,7 +11,7 @@ use lib.ListN.{length}
 use borrow.Author.Tests.{le-ltb, lt-leb, eqb-false}
 use Rattle.ump.specs.Controller.{rpn_numbered}
 use Rattle.ump.proofs.Cases.{by-test}
-use Rattle.parameters.specs.declared.MaybeEvent.TheVariants.{Event}
+use Rattle.std.specs.Prelude.{Some}
 use Rattle.parameters.specs.State.{number, with_rpn}
 use Rattle.mpe_layout.specs.declared.MpeZone.{MpeZone}
 use Rattle.mpe_layout.specs.declared.MpeZone.TheVariants.{Lower, Upper}
@@ -39,7 +39,7 @@ use Rattle.settings.proofs.Received.{received-all, received-append, bytes-formed
 use Rattle.settings.proofs.Stage.{cleared-with, zones_at, Stage, stage_at}
 
 -- RPN 6 with a data entry on a manager announces its zone
-announces : (r : MpeReceiver) (zone : MpeZone) (v : ℕ) → received_by_fields r (Event (entry_of 6 v)) 0xB (manager_of zone) 6 v ≡ with_update r (announced (zones_of r) zone v)
+announces : (r : MpeReceiver) (zone : MpeZone) (v : ℕ) → received_by_fields r (Some (entry_of 6 v)) 0xB (manager_of zone) 6 v ≡ with_update r (announced (zones_of r) zone v)
 unfolding received_by_fields stored rpn_numbered
 announces r Lower v = refl
 announces r Upper v = refl

@@ -35,8 +35,8 @@ each-length f m h zero = omega arith
 each-length f m h (suc n) =
     length-append (each_channel f n) (f n) ∙ ap₂ (λ x y. x + y) (each-length f m h n) (h n) ∙ sym (suc-mul n m)
 
-pub one-le : (members : ℕ) → one_if_any members ≤ 1
-one-le members = by-test (eqb members 0) (λ e. rw e (omega arith)) (λ e. rw e (omega arith))
+pub one_le : (members : ℕ) → one_if_any members ≤ 1
+one_le members = by-test (eqb members 0) (λ e. rw e (omega arith)) (λ e. rw e (omega arith))
 
 -- the messages of each group
 pub resets-length : length resets ≡ 16
@@ -91,7 +91,7 @@ pub most-messages : (l : MpeLayout) → legal l ≡ true → message_count l ≤
 unfolding message_count
 most-messages l h =
     by-test (eqb l.lower 0)
-    (λ e. rw e (omega (arith, eqb-true l.lower 0 e, members-le l Upper h, one-le l.upper)))
+    (λ e. rw e (omega (arith, eqb-true l.lower 0 e, members-le l Upper h, one_le l.upper)))
     (λ e.
     by-test (eqb l.upper 0)
     (λ f. rw (e, f) (omega (arith, eqb-true l.upper 0 f, members-le l Lower h)))

@@ -68,9 +68,9 @@ inside-allowed s w =
 allowed-inside : (s : Settings) → allowed s ≡ true → SettingsWithin s
 allowed-inside s h = record { layout_legal = allowed-legal s h; zones_within = zone-inside s h; channels_within = allowed-channel s h }
 
-pub answered-within : (s : Settings) (needed got : ℕ) (reply : Outcome ℕ) → reply ≡ restated_reply s needed got → AnsweredWithin s needed got reply
+pub answered_within : (s : Settings) (needed got : ℕ) (reply : Outcome ℕ) → reply ≡ restated_reply s needed got → AnsweredWithin s needed got reply
 unfolding restated_reply
-answered-within s needed got reply r =
+answered_within s needed got reply r =
     record {
       outside_limits = λ no. by-test (allowed s) (λ h. absurd (no (allowed-inside s h))) (λ h. r ∙ rw h);
       with_room = λ w fits. r ∙ rw (inside-allowed s w, le-ltb got needed fits);

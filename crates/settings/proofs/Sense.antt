@@ -17,7 +17,7 @@ use Rattle.parameter_event.specs.declared.Parameter.TheVariants.{Registered}
 use Rattle.parameter_event.specs.declared.ParameterChange.{ParameterChange}
 use Rattle.parameter_event.specs.declared.ParameterChange.TheVariants.{DataEntryMsb, DataEntryLsb}
 use Rattle.parameter_event.specs.declared.ParameterEvent.{ParameterEvent}
-use Rattle.parameters.specs.declared.MaybeEvent.TheVariants.{Event, NoEvent}
+use Rattle.std.specs.Prelude.{Some, None}
 use Rattle.parameters.specs.declared.ParameterState.{ParameterState}
 use Rattle.parameters.specs.State.{number, with_rpn, selection_of, number_stored, controlled, parameter_update}
 use Rattle.parameters.specs.State as parameter
@@ -80,7 +80,7 @@ changes-role r k zone manager change h hk role =
 
 entry-acts : (r : MpeReceiver) (k v : ℕ) (zone : MpeZone) (manager upper : Bool) → legal r.layout ≡ true → k < 16
     → role_of r.layout k ≡ role_for zone manager
-    → zones_of (received_by_fields r (Event (entry_event upper v)) 0xB k (entry_controller upper) v).receiver ≡ sensitivity_changed (zones_of r) zone manager (entry_change upper v)
+    → zones_of (received_by_fields r (Some (entry_event upper v)) 0xB k (entry_controller upper) v).receiver ≡ sensitivity_changed (zones_of r) zone manager (entry_change upper v)
 unfolding received_by_fields stored rpn_numbered
 entry-acts r k v zone manager true h hk role = changes-role r k zone manager (DataEntryMsb v) h hk role
 entry-acts r k v zone manager false h hk role = changes-role r k zone manager (DataEntryLsb v) h hk role
@@ -122,7 +122,7 @@ slot_lt Upper false = lit< tt
 
 -- the lower half, where RPN 0 is selected
 lower-entered : (p : ParameterState) (v : ℕ) → p.rpn_on ≡ true
-    → parameter.update_by_fields (with_rpn p (number 0 0)) 0xB 38 v ≡ parameter_update (with_rpn p (number 0 0)) (Event (entry_event false v))
+    → parameter.update_by_fields (with_rpn p (number 0 0)) 0xB 38 v ≡ parameter_update (with_rpn p (number 0 0)) (Some (entry_event false v))
 unfolding controlled selection_of
 lower-entered p v on = rw on
 
@@ -154,14 +154,14 @@ module _ {z : Zones} (e : End) (k : ℕ) (s : MpeSensitivity) (zone : MpeZone) (
   c_lt : c < 128
   c_lt = omega (arith, (allowed-limits s h).1)
 
-  semitones_read : e1 ≡ with_receiver (with_parameter (with_reader e rd) k q) (received_by_fields e.receiver (Event (entry_event true v)) 0xB k 6 v).receiver
+  semitones_read : e1 ≡ with_receiver (with_parameter (with_reader e rd) k q) (received_by_fields e.receiver (Some (entry_event true v)) 0xB k 6 v).receiver
   semitones_read =
       ap (after_bytes e) (group-bytes k 0 v hk (omega arith) v-lt)
       ∙ entry_read e k 0 v hk (omega arith) v-lt st.formed.channels (st.cleared k hk).rpn-on refl
 
   semitones-stage : Stage z1 e1
   semitones-stage =
-      stage_at e e1 k rd q (received_by_fields e.receiver (Event (entry_event true v)) 0xB k 6 v).receiver st
+      stage_at e e1 k rd q (received_by_fields e.receiver (Some (entry_event true v)) 0xB k 6 v).receiver st
       (bytes-formed e (bytes (rpn_group k 0 0 v)) st.formed)
       semitones_read
       (cleared-with (parameter_at e k) (number 0 0) (st.cleared k hk))
@@ -174,7 +174,7 @@ module _ {z : Zones} (e : End) (k : ℕ) (s : MpeSensitivity) (zone : MpeZone) (
       ap (λ x. parameter_at x k) semitones_read ∙ get_or-set_same e.parameters k q blank_state (omega (arith, st.formed.channels))
 
   -- after the cents
-  cents_read : received-all e1 (control_word k 38 c ∷ []) ≡ with_receiver (with_parameter (with_reader e1 rd) k q) (received_by_fields e1.receiver (Event (entry_event false c)) 0xB k 38 c).receiver
+  cents_read : received-all e1 (control_word k 38 c ∷ []) ≡ with_receiver (with_parameter (with_reader e1 rd) k q) (received_by_fields e1.receiver (Some (entry_event false c)) 0xB k 38 c).receiver
   cents_read =
       control-all e1 k 38 c hk (omega arith) c_lt
       ∙ ap (λ p. with_receiver (with_parameter (with_reader e1 rd) k (parameter.update_by_fields p 0xB 38 c).state) (received_by_fields e1.receiver (parameter.update_by_fields p 0xB 38 c).event 0xB k 38 c).receiver) selected
@@ -186,7 +186,7 @@ module _ {z : Zones} (e : End) (k : ℕ) (s : MpeSensitivity) (zone : MpeZone) (
   group-stage : Stage (sensed z zone manager s) (received-all e (sensitivity_group k s))
   group-stage =
       subst (Stage (sensed z zone manager s)) (sym (received-append e (rpn_group k 0 0 v) (control_word k 38 c ∷ [])))
-      (stage_at e1 (received-all e1 (control_word k 38 c ∷ [])) k rd q (received_by_fields e1.receiver (Event (entry_event false c)) 0xB k 38 c).receiver semitones-stage
+      (stage_at e1 (received-all e1 (control_word k 38 c ∷ [])) k rd q (received_by_fields e1.receiver (Some (entry_event false c)) 0xB k 38 c).receiver semitones-stage
       (bytes-formed e1 (bytes (control_word k 38 c ∷ [])) semitones-stage.formed)
       cents_read
       (cleared-with (parameter_at e k) (number 0 0) (st.cleared k hk))
@@ -292,7 +292,7 @@ is-lowest l zone h some =
     rw (h, n, eq-eqb (lowest_of l zone) (lowest_of l zone) refl)
 
 mode-acts : (r : MpeReceiver) (zone : MpeZone) (mono : Bool) (v : ℕ) → legal r.layout ≡ true → 0 < members_of r.layout zone
-    → zones_of (received_by_fields r NoEvent 0xB (lowest_of r.layout zone) (mode_controller mono) v).receiver ≡ with_mono (zones_of r) zone mono
+    → zones_of (received_by_fields r None 0xB (lowest_of r.layout zone) (mode_controller mono) v).receiver ≡ with_mono (zones_of r) zone mono
 unfolding received_by_fields stored on_member
 mode-acts r zone true v h some =
     let k = lowest_of r.layout zone in
@@ -305,7 +305,7 @@ mode-acts r zone false v h some =
     ap (λ ro. mode_set z (plain_event z k ro 0xB 127) 127) (held r.layout k h (lowest-lt r.layout zone h some) ∙ lowest-role r.layout zone h some)
     ∙ ap (λ t. mode_set z (mode_event zone t) 127) (is-lowest r.layout zone h some)
 
-stays : (p : ParameterState) (mono : Bool) (v : ℕ) → parameter.update_by_fields p 0xB (mode_controller mono) v ≡ parameter_update p NoEvent
+stays : (p : ParameterState) (mono : Bool) (v : ℕ) → parameter.update_by_fields p 0xB (mode_controller mono) v ≡ parameter_update p None
 unfolding controlled number_stored
 stays p true v = refl
 stays p false v = refl
@@ -319,9 +319,9 @@ mode-stage {z} e zone mono v h some hv s =
     let r = e.receiver in
     let same : r.layout ≡ z.layout = ap (λ y. y.layout) s.zones in
     let b = with_reader e (reader_at (status_of 0xB k) 0x80) in
-    let moved = (received_by_fields r NoEvent 0xB k (mode_controller mono) v).receiver in
+    let moved = (received_by_fields r None 0xB k (mode_controller mono) v).receiver in
     let acts : zones_of moved ≡ with_mono (zones_of r) zone mono =
-    subst (λ l. zones_of (received_by_fields r NoEvent 0xB (lowest_of l zone) (mode_controller mono) v).receiver ≡ with_mono (zones_of r) zone mono) same
+    subst (λ l. zones_of (received_by_fields r None 0xB (lowest_of l zone) (mode_controller mono) v).receiver ≡ with_mono (zones_of r) zone mono) same
     (mode-acts r zone mono v (subst (λ l. legal l ≡ true) (sym same) h) (subst (λ l. 0 < members_of l zone) (sym same) some)) in
     stage_at e (received-all e (control_word k (mode_controller mono) v ∷ [])) k (reader_at (status_of 0xB k) 0x80) (parameter_at e k) moved s
     (bytes-formed e (bytes (control_word k (mode_controller mono) v ∷ [])) s.formed)

@@ -9,15 +9,17 @@ use mpe_pitch::MpeSensitivity;
 
 // What is set for a zone: the sensitivities of its manager and of its members, semitones 0 to 96 and cents 0 to 99, and mode 3 or 4. Of a zone
 // without members nothing is read.
-#[derive(Clone, Copy)]
+#[derive(Clone, Copy, Debug, PartialEq, Eq)]
 pub struct ZoneSettings {
     pub manager: MpeSensitivity,
     pub member: MpeSensitivity,
+    // A number, as an end gives it: `zone_allowed` tests it, and in an empty zone any number passes.
     pub mode: u8,
 }
 
 // The settings of an end: a layout, its zones, and for each channel bend 0 to 0x3FFF, pressure and brightness 0 to 127.
-#[derive(Clone, Copy)]
+// Three arrays, and not one of records: `new_settings` and the definitions of a setup file state settings by these three lists.
+#[derive(Clone, Copy, Debug, PartialEq, Eq)]
 pub struct Settings {
     pub layout: MpeLayout,
     pub lower: ZoneSettings,
