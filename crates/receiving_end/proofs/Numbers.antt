@@ -13,7 +13,7 @@ use Rattle.parameter_event.specs.declared.Parameter.TheVariants.{Registered}
 use Rattle.parameter_event.specs.declared.ParameterChange.TheVariants.{DataEntryMsb}
 use Rattle.parameter_event.specs.declared.ParameterEvent.{ParameterEvent}
 use Rattle.parameters.specs.declared.ParameterState.{ParameterState}
-use Rattle.parameters.specs.declared.MaybeEvent.TheVariants.{Event}
+use Rattle.std.specs.Prelude.{Some}
 use Rattle.parameters.specs.State.{number, with_rpn, selects, selection_of, number_stored, controlled, parameter_update}
 use Rattle.parameters.specs.State as parameter
 use Rattle.mpe_receiver.specs.Receive.{stored, received_by_fields}
@@ -37,7 +37,7 @@ entry_of l v = record { parameter = Registered (rpn_of 0 l); change = DataEntryM
 
 -- the parameters of a channel, chosen number 0 l
 entered-as : (p : ParameterState) (l v : ℕ) → p.rpn_on ≡ true → selects 0 l ≡ true
-    → parameter.update_by_fields (with_rpn p (number 0 l)) 0xB 6 v ≡ parameter_update (with_rpn p (number 0 l)) (Event (entry_of l v))
+    → parameter.update_by_fields (with_rpn p (number 0 l)) 0xB 6 v ≡ parameter_update (with_rpn p (number 0 l)) (Some (entry_of l v))
 unfolding controlled selection_of
 entered-as p l v on sel = rw (on, sel)
 
@@ -71,18 +71,18 @@ module _ (e : End) (k l v : ℕ) (hk : k < 16) (hl : l < 0x80) (hv : v < 0x80) (
       ∙ ap (λ t. record { reader = reader_at (status_of 0xB k) 0x80; parameters = t; receiver = e.receiver }) (set-set e.parameters k _ _)
 
   third : after_bytes (at (with_rpn p (number 0 l))) (control k 6 v)
-      ≡ with_receiver (at (with_rpn p (number 0 l))) (received_by_fields e.receiver (Event (entry_of l v)) 0xB k 6 v).receiver
+      ≡ with_receiver (at (with_rpn p (number 0 l))) (received_by_fields e.receiver (Some (entry_of l v)) 0xB k 6 v).receiver
   unfolding p
   third =
       control-read (at (with_rpn p (number 0 l))) k 6 v hk (omega arith) hv
       ∙ ap (λ q. with_receiver (with_parameter (at (with_rpn p (number 0 l))) k (parameter.update_by_fields q 0xB 6 v).state) (received_by_fields e.receiver (parameter.update_by_fields q 0xB 6 v).event 0xB k 6 v).receiver)
       (at-k (with_rpn p (number 0 l)))
       ∙ ap (λ h. with_receiver (with_parameter (at (with_rpn p (number 0 l))) k h.state) (received_by_fields e.receiver h.event 0xB k 6 v).receiver) (entered-as p l v on sel)
-      ∙ ap (λ t. record { reader = reader_at (status_of 0xB k) 0x80; parameters = t; receiver = (received_by_fields e.receiver (Event (entry_of l v)) 0xB k 6 v).receiver }) (set-set e.parameters k _ _)
+      ∙ ap (λ t. record { reader = reader_at (status_of 0xB k) 0x80; parameters = t; receiver = (received_by_fields e.receiver (Some (entry_of l v)) 0xB k 6 v).receiver }) (set-set e.parameters k _ _)
 
   -- all three
   pub entry_read : after_bytes e (control k 101 0 ++ control k 100 l ++ control k 6 v)
-      ≡ with_receiver (at (with_rpn (parameter_at e k) (number 0 l))) (received_by_fields e.receiver (Event (entry_of l v)) 0xB k 6 v).receiver
+      ≡ with_receiver (at (with_rpn (parameter_at e k) (number 0 l))) (received_by_fields e.receiver (Some (entry_of l v)) 0xB k 6 v).receiver
   unfolding p
   entry_read =
       bytes-after-bytes e (control k 101 0) (control k 100 l ++ control k 6 v)

@@ -3,8 +3,8 @@
 use Prim.Native.Nat.{ℕ}
 use mathlib.Core.Path.{◌≡◌, ap, ◌∙◌}
 use borrow.Author.Tests.{ne_eqb}
+use Rattle.std.specs.Prelude.{None}
 use Rattle.parameters.specs.declared.ParameterState.{ParameterState}
-use Rattle.parameters.specs.declared.MaybeEvent.TheVariants.{NoEvent}
 use Rattle.parameters.specs.State.{number_stored, controlled, parameter_update}
 use Rattle.parameters.specs.State as parameter
 use Rattle.mpe_receiver.specs.Receive.{stored, received_by_fields}
@@ -21,7 +21,7 @@ pub record NoEntry (a : ℕ) : Type 0 where
   pub not-96 : a ≡ 96 → ⊥
   pub not-97 : a ≡ 97 → ⊥
 
-pub stores : (p : ParameterState) (a b : ℕ) → NoEntry a → parameter.update_by_fields p 0xB a b ≡ parameter_update (number_stored p a b) NoEvent
+pub stores : (p : ParameterState) (a b : ℕ) → NoEntry a → parameter.update_by_fields p 0xB a b ≡ parameter_update (number_stored p a b) None
 unfolding controlled
 stores p a b n = rw (ne_eqb a 6 n.not-6, ne_eqb a 38 n.not-38, ne_eqb a 96 n.not-96, ne_eqb a 97 n.not-97)
 
@@ -33,7 +33,7 @@ module _ (e : End) (k a b : ℕ) (n : NoEntry a) (m : NoMode 0xB a) where
 
 -- a message that is no control change leaves the parameters
 module _ (e : End) (o k a b : ℕ) (n : o ≡ 0xB → ⊥) where
-  no-update : parameters_update e o k a b ≡ parameter_update (parameter_at e k) NoEvent
+  no-update : parameters_update e o k a b ≡ parameter_update (parameter_at e k) None
   no-update = rw (ne_eqb o 0xB n)
 
   pub other-received : end_after e o k a b ≡ with_receiver (with_parameter e k (parameter_at e k)) (stored e.receiver o k a b)

@@ -1,11 +1,10 @@
 -- The end, and what each call does to it (document 01, "A byte arrives").
-use Rattle.std.specs.Prelude.{ℕ, Bool, false, get_or, set, replicate}
+use Rattle.std.specs.Prelude.{ℕ, Bool, false, get_or, set, replicate, Option, None}
 use Rattle.ump.specs.Outcome.{Outcome, given, declined}
 use Rattle.ump.specs.Packet.{packet_value}
 use Rattle.ump.specs.Word.{channel_of}
 use Rattle.parameters.specs.declared.ParameterState.{ParameterState}
-use Rattle.parameters.specs.declared.MaybeEvent.{MaybeEvent}
-use Rattle.parameters.specs.declared.MaybeEvent.TheVariants.{NoEvent}
+use Rattle.parameter_event.specs.declared.ParameterEvent.{ParameterEvent}
 use Rattle.parameters.specs.State.{new_state, number, rpn_switched, nrpn_switched}
 use Rattle.parameters.specs.State as parameter
 use Rattle.mpe_layout.specs.declared.MpeLayout.{MpeLayout}
@@ -46,9 +45,9 @@ abbrev pub parameter_at : End → ℕ → ParameterState
 parameter_at e k = get_or e.parameters k blank_state
 
 -- what the parts give for a word of the form of a message; the reader makes no other
-abbrev pub event_in : Outcome MaybeEvent → MaybeEvent
+abbrev pub event_in : Outcome (Option ParameterEvent) → Option ParameterEvent
 event_in (given e) = e
-event_in (declined n v) = NoEvent
+event_in (declined n v) = None
 
 abbrev pub mpe_in : Outcome MpeEvent → MpeEvent
 mpe_in (given e) = e
@@ -58,7 +57,7 @@ abbrev pub stepped : End → Reply → Stepped
 stepped e r = record { end = e; reply = r }
 
 -- the event that the channel's parameters give for a word
-abbrev pub parameter_event_at : ParameterState → ℕ → MaybeEvent
+abbrev pub parameter_event_at : ParameterState → ℕ → Option ParameterEvent
 parameter_event_at p w = event_in (parameter.parameter_reply p w)
 
 -- a message reaches its channel's parameters first, and then the receiver with their event

@@ -1,8 +1,8 @@
 -- Lists of calls on one end, and their answers (document 01, "Demand 3 in detail").
-use Rattle.std.specs.Prelude.{ℕ, Bool, List, [], ◌∷◌, ℤ}
+use Rattle.std.specs.Prelude.{ℕ, Bool, List, [], ◌∷◌, ℤ, Option}
 use Rattle.ump.specs.Outcome.{Outcome}
 use Rattle.ump.specs.Packet.{packet_value}
-use Rattle.parameters.specs.declared.Selection.{Selection}
+use Rattle.parameter_event.specs.declared.Parameter.{Parameter}
 use Rattle.parameters.specs.State.{selection_of}
 use Rattle.mpe_layout.specs.declared.MpeZone.{MpeZone}
 use Rattle.mpe_layout.specs.declared.MpeLayout.{MpeLayout}
@@ -36,7 +36,7 @@ pub data Answer : Type 0 where
   ranged : MpeSensitivity → Answer
   offset : Outcome ℤ → Answer
   paired : Outcome OffsetWithRemainder → Answer
-  selected : Selection → Answer
+  selected : Option Parameter → Answer
   switched : Bool → Answer
 
 -- the answer of a call; the contract of each call says that it gives this one

@@ -1,11 +1,11 @@
 // The end: its layout, its reception switches, and every reading. The byte call on it is `byte_call`.
 ghost use Rattle.std.specs.Prelude.{◌≡◌, ℤ, ◌<◌};
-ghost use Rattle.ump.specs.Outcome.{given, answered};
+ghost use Rattle.ump.specs.Outcome.{given, answered, found};
 ghost use Rattle.ump.specs.Packet.{packet_value};
 ghost use Rattle.parameters.specs.State.{selection_of};
 ghost use Rattle.mpe_pitch.specs.Claims.{Within};
 ghost use Rattle.mpe_receiver.specs.Receive.{set_reply};
-ghost use Rattle.mpe_receiver.specs.Read.{mode_of, sensitivity_of, bend_at, pressure_at, brightness_at, offset_of, offset_read, pair_of, pair_read};
+ghost use Rattle.mpe_receiver.specs.Read.{mode_of, sensitivity_of, bend_at, pressure_at, brightness_at, offset_of, pair_of};
 ghost use Rattle.mpe_receiver.specs.Ratio.{RatioByRole};
 ghost use Rattle.receiving_end.specs.Lists.{set_layout, set_rpn_reception, set_nrpn_reception, layout, mode, sensitivity, pitch_bend, pressure, brightness, pitch_offset, pitch_offset_with_remainder, selection, rpn_reception, nrpn_reception, masked, done, laid_out, counted, ranged, offset, paired, selected, switched, answer, next};
 ghost use Rattle.receiving_end.specs.WellFormed.{AlwaysFormed};
@@ -16,12 +16,13 @@ ghost use Rattle.receiving_end.specs.End.{new_end, parameter_at, with_parameter,
 use byte_reader::Reader;
 use mpe_event::MpeEvent;
 use mpe_layout::{MpeLayout, MpeZone};
-use mpe_pitch::MpeSensitivity;
-use mpe_receiver::{MpeReceiver, Offset, OffsetPair};
-use mpe_reset::ResetMask;
-use parameters::{ParameterState, Selection};
+use mpe_pitch::{MpeSensitivity, OffsetWithRemainder};
+use mpe_receiver::MpeReceiver;
+use parameter_event::Parameter;
+use parameters::ParameterState;
+use ump::reply::OutOfRange;
 
-// A reader, the parameters of each channel, and one receiver.
+// A reader, the parameters of each channel, and one receiver. Its layout and its parts' are for C: firmware holds it (bench_lent_c).
 #[repr(C)]
 #[derive(Clone, Copy)]
 pub struct End {
@@ -50,7 +51,7 @@ pub struct Stepped {
 #[derive(Clone, Copy)]
 pub struct LayoutSet {
     pub end: End,
-    pub reply: ResetMask,
+    pub reply: Result<u16, OutOfRange>,
 }
 
 impl End {
@@ -68,20 +69,19 @@ impl End {
         }
     }
 
-    // The parameters of a channel below 16.
-    fn parameter(self, k: usize) -> ParameterState
-        requires { k < 16 }
-        ensures { result ≡ parameter_at self k }
+    // The parameters of a channel.
+    fn parameter(self, channel: u8) -> ParameterState
+        ensures { result ≡ parameter_at self (packet_value channel) }
     {
-        self.parameters[k]
+        self.parameters[(channel % 16) as usize]
     }
 
-    fn with_parameter(self, k: usize, state: ParameterState) -> End
-        requires { k < 16 }
-        ensures { result ≡ with_parameter self k state }
+    // The end with these parameters of a channel.
+    fn with_parameter(self, channel: u8, state: ParameterState) -> End
+        ensures { result ≡ with_parameter self (packet_value channel) state }
     {
         let mut n = self;
-        n.parameters[k] = state;
+        n.parameters[(channel % 16) as usize] = state;
         n
     }
 
@@ -90,13 +90,11 @@ impl End {
         ensures is { (answered result.reply ≡ set_reply self.receiver layout) × (result.end ≡ laid_out_end self layout) }
         ensures call { (masked (answered result.reply) ≡ answer self (set_layout layout)) × (result.end ≡ next self (set_layout layout)) }
     {
-        let receiver = self.receiver;
-        let set = receiver.set_layout(layout);
-        let after = set.receiver;
-        let reply = set.reply;
-        let mut n = self;
-        n.receiver = after;
-        LayoutSet { end: n, reply }
+        let mpe_receiver::LayoutSet { receiver, reply } = self.receiver.set_layout(layout);
+        LayoutSet {
+            end: End { receiver, ..self },
+            reply,
+        }
     }
 
     // Turns a channel's RPN reception on or off.
@@ -104,9 +102,7 @@ impl End {
         ensures is { result ≡ rpn_switched_at self channel on }
         ensures call { (done ≡ answer self (set_rpn_reception channel on)) × (result ≡ next self (set_rpn_reception channel on)) }
     {
-        let k = (channel % 16) as usize;
-        let p = self.parameter(k);
-        self.with_parameter(k, p.set_rpn_reception(on))
+        self.with_parameter(channel, self.parameter(channel).set_rpn_reception(on))
     }
 
     // Turns a channel's NRPN reception on or off.
@@ -114,42 +110,36 @@ impl End {
         ensures is { result ≡ nrpn_switched_at self channel on }
         ensures call { (done ≡ answer self (set_nrpn_reception channel on)) × (result ≡ next self (set_nrpn_reception channel on)) }
     {
-        let k = (channel % 16) as usize;
-        let p = self.parameter(k);
-        self.with_parameter(k, p.set_nrpn_reception(on))
+        self.with_parameter(channel, self.parameter(channel).set_nrpn_reception(on))
     }
 
     pub fn rpn_reception(self, channel: u8) -> bool
         ensures is { result ≡ (parameter_at self (packet_value channel)).rpn_on }
         ensures call { (switched result ≡ answer self (rpn_reception channel)) × (self ≡ next self (rpn_reception channel)) }
     {
-        let p = self.parameter((channel % 16) as usize);
-        p.rpn_reception()
+        self.parameter(channel).rpn_reception()
     }
 
     pub fn nrpn_reception(self, channel: u8) -> bool
         ensures is { result ≡ (parameter_at self (packet_value channel)).nrpn_on }
         ensures call { (switched result ≡ answer self (nrpn_reception channel)) × (self ≡ next self (nrpn_reception channel)) }
     {
-        let p = self.parameter((channel % 16) as usize);
-        p.nrpn_reception()
+        self.parameter(channel).nrpn_reception()
     }
 
     // The parameter that a data entry on the channel acts on now.
-    pub fn selection(self, channel: u8) -> Selection
+    pub fn selection(self, channel: u8) -> Option<Parameter>
         ensures is { result ≡ selection_of (parameter_at self (packet_value channel)) }
         ensures call { (selected result ≡ answer self (selection channel)) × (self ≡ next self (selection channel)) }
     {
-        let p = self.parameter((channel % 16) as usize);
-        p.selection()
+        self.parameter(channel).selection()
     }
 
     pub fn layout(self) -> MpeLayout
         ensures is { result ≡ self.receiver.layout }
         ensures call { (laid_out result ≡ answer self layout) × (self ≡ next self layout) }
     {
-        let receiver = self.receiver;
-        receiver.layout()
+        self.receiver.layout()
     }
 
     // The mode of a zone: 3 or 4.
@@ -157,8 +147,7 @@ impl End {
         ensures is { result ≡ mode_of self.receiver zone }
         ensures call { (counted result ≡ answer self (mode zone)) × (self ≡ next self (mode zone)) }
     {
-        let receiver = self.receiver;
-        receiver.mode(zone)
+        self.receiver.mode(zone)
     }
 
     // The manager's or the members' sensitivity of a zone.
@@ -166,51 +155,45 @@ impl End {
         ensures is { result ≡ sensitivity_of self.receiver zone manager }
         ensures call { (ranged result ≡ answer self (sensitivity zone manager)) × (self ≡ next self (sensitivity zone manager)) }
     {
-        let receiver = self.receiver;
-        receiver.sensitivity(zone, manager)
+        self.receiver.sensitivity(zone, manager)
     }
 
     pub fn pitch_bend(self, channel: u8) -> u16
         ensures is { result ≡ bend_at self.receiver channel }
         ensures call { (counted result ≡ answer self (pitch_bend channel)) × (self ≡ next self (pitch_bend channel)) }
     {
-        let receiver = self.receiver;
-        receiver.pitch_bend(channel)
+        self.receiver.pitch_bend(channel)
     }
 
     pub fn pressure(self, channel: u8) -> u8
         ensures is { result ≡ pressure_at self.receiver channel }
         ensures call { (counted result ≡ answer self (pressure channel)) × (self ≡ next self (pressure channel)) }
     {
-        let receiver = self.receiver;
-        receiver.pressure(channel)
+        self.receiver.pressure(channel)
     }
 
     pub fn brightness(self, channel: u8) -> u8
         ensures is { result ≡ brightness_at self.receiver channel }
         ensures call { (counted result ≡ answer self (brightness channel)) × (self ≡ next self (brightness channel)) }
     {
-        let receiver = self.receiver;
-        receiver.brightness(channel)
+        self.receiver.brightness(channel)
     }
 
     // The channel's offset in hundredths of a cent, from -2,565,714 to 2,565,400.
-    pub fn pitch_offset(self, channel: u8) -> Offset
-        ensures is { offset_read result ≡ offset_of self.receiver channel }
-        ensures call { (offset (offset_read result) ≡ answer self (pitch_offset channel)) × (self ≡ next self (pitch_offset channel)) }
-        ensures within { (z : ℤ) → offset_read result ≡ given z → Within 2565714 2565400 z }
+    pub fn pitch_offset(self, channel: u8) -> Option<i32>
+        ensures is { found result ≡ offset_of self.receiver channel }
+        ensures call { (offset (found result) ≡ answer self (pitch_offset channel)) × (self ≡ next self (pitch_offset channel)) }
+        ensures within { (z : ℤ) → found result ≡ given z → Within 2565714 2565400 z }
     {
-        let receiver = self.receiver;
-        receiver.pitch_offset(channel)
+        self.receiver.pitch_offset(channel)
     }
 
     // The channel's offset with its remainder, from -8,190 to 8,190.
-    pub fn pitch_offset_with_remainder(self, channel: u8) -> OffsetPair
-        ensures is { pair_read result ≡ pair_of self.receiver channel }
-        ensures call { (paired (pair_read result) ≡ answer self (pitch_offset_with_remainder channel)) × (self ≡ next self (pitch_offset_with_remainder channel)) }
-        ensures ratio { RatioByRole self.receiver channel (pair_read result) }
+    pub fn pitch_offset_with_remainder(self, channel: u8) -> Option<OffsetWithRemainder>
+        ensures is { found result ≡ pair_of self.receiver channel }
+        ensures call { (paired (found result) ≡ answer self (pitch_offset_with_remainder channel)) × (self ≡ next self (pitch_offset_with_remainder channel)) }
+        ensures ratio { RatioByRole self.receiver channel (found result) }
     {
-        let receiver = self.receiver;
-        receiver.pitch_offset_with_remainder(channel)
+        self.receiver.pitch_offset_with_remainder(channel)
     }
 }
