@@ -2,35 +2,24 @@
 -- Assumes nothing.
 use Prim.Native.Nat.{ℕ, ◌-◌}
 use mathlib.Core.Path.{◌≡◌, ap, sym, ◌∙◌}
-use native.Mathlib.Omega.{arith}
 use Rattle.mpe_layout.specs.declared.MpeZone.{MpeZone}
 use Rattle.mpe_layout.specs.declared.MpeZone.TheVariants.{Lower, Upper}
-use Rattle.mpe_layout.specs.declared.MpeRole.{MpeRole}
-use Rattle.mpe_layout.specs.declared.MpeRole.TheVariants.{NoZone, Manager, Member}
+use Rattle.mpe_layout.specs.declared.MpeRole.TheVariants.{Member}
 use Rattle.mpe_layout.specs.declared.ZonePlace.{ZonePlace}
 use Rattle.mpe_layout.specs.declared.ZonePlace.TheVariants.{Outside, AsManager, AsMember}
 use Rattle.mpe_layout.specs.declared.MpeLayout.{MpeLayout}
 use Rattle.mpe_layout.specs.Layout.{members_of, place_of, role_at, role_of}
 use Rattle.mpe_layout.proofs.Roles.{place-empty}
 
--- a number for each sort of role
-code_of : MpeRole → ℕ
-code_of NoZone = 0
-code_of (Manager zone) = 1
-code_of (Member Lower) = 2
-code_of (Member Upper) = 3
-
 no_lower : (p : ZonePlace) → role_at Outside p ≡ Member Lower → ⊥
-unfolding code_of
-no_lower Outside q = let n = ap code_of q in omega (arith, n)
-no_lower AsManager q = let n = ap code_of q in omega (arith, n)
-no_lower AsMember q = let n = ap code_of q in omega (arith, n)
+no_lower Outside q = cc
+no_lower AsManager q = cc
+no_lower AsMember q = cc
 
 no-upper : (p : ZonePlace) → role_at p Outside ≡ Member Upper → ⊥
-unfolding code_of
-no-upper Outside q = let n = ap code_of q in omega (arith, n)
-no-upper AsManager q = let n = ap code_of q in omega (arith, n)
-no-upper AsMember q = let n = ap code_of q in omega (arith, n)
+no-upper Outside q = cc
+no-upper AsManager q = cc
+no-upper AsMember q = cc
 
 pub has-members : (l : MpeLayout) (zone : MpeZone) (k : ℕ) → role_of l k ≡ Member zone → members_of l zone ≡ 0 → ⊥
 unfolding role_of

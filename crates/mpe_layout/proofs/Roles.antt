@@ -116,10 +116,10 @@ unfolding place_of
 at-manager members distance e = by (eqb members 0) (eqb distance 0) (leb distance members) (eqb-true distance 0) e
   where
     by : (a b c : Bool) → (b ≡ true → distance ≡ 0) → (when a then Outside else when b then AsManager else when c then AsMember else Outside) ≡ AsManager → distance ≡ 0
-    by true b c f e = let n : ◌≡◌ {A = ℕ} 0 1 = cc in absurd (omega arith)
+    by true b c f e = cc
     by false true c f e = f refl
-    by false false true f e = let n : ◌≡◌ {A = ℕ} 0 1 = cc in absurd (omega arith)
-    by false false false f e = let n : ◌≡◌ {A = ℕ} 0 1 = cc in absurd (omega arith)
+    by false false true f e = cc
+    by false false false f e = cc
 
 pub managers-channel : (l : MpeLayout) (channel : ℕ) (zone : MpeZone) → channel < 16 → role_of l channel ≡ Manager zone → channel ≡ manager_of zone
 unfolding role_of
@@ -129,11 +129,11 @@ managers-channel l channel zone b e = by (place_of l.lower channel) (place_of l.
     by AsManager y p q e =
         let z : Lower ≡ zone = cc in
         at-manager l.lower channel p ∙ ap manager_of z
-    by AsMember y p q e = let n : ◌≡◌ {A = ℕ} 0 1 = cc in absurd (omega arith)
+    by AsMember y p q e = cc
     by Outside AsManager p q e =
         let d = at-manager l.upper (15 - channel) q in
         let k : channel ≡ 15 = omega arith in
         let z : Upper ≡ zone = cc in
         k ∙ ap manager_of z
-    by Outside AsMember p q e = let n : ◌≡◌ {A = ℕ} 0 1 = cc in absurd (omega arith)
-    by Outside Outside p q e = let n : ◌≡◌ {A = ℕ} 0 1 = cc in absurd (omega arith)
+    by Outside AsMember p q e = cc
+    by Outside Outside p q e = cc

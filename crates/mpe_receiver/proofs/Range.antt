@@ -20,7 +20,7 @@ use Rattle.mpe_receiver.specs.Read.{bend_at, sensitivity_of, manager_offset, mem
 
 by-role : (r : MpeReceiver) (c : ℕ) (role : MpeRole) (z : ℤ) → offset_by_role r c role ≡ given z → Within 2565714 2565400 z
 unfolding manager_offset member_offset
-by-role r c NoZone z e = let n : ◌≡◌ {A = ℕ} 0 1 = cc in absurd (omega arith)
+by-role r c NoZone z e = cc
 by-role r c (Manager zone) z e =
     let p : manager_offset r zone ≡ z = cc in
     subst (λ x. Within 2565714 2565400 x) p

@@ -35,7 +35,7 @@ managers-bend r channel zone e =
 
     by : (t : Bool) → role_in (when t then given (role_of r.layout (packet_value channel)) else out_of_range) ≡ Manager zone → role_of r.layout (packet_value channel) ≡ Manager zone
     by true e = e
-    by false e = let n : ◌≡◌ {A = ℕ} 0 1 = cc in absurd (omega arith)
+    by false e = cc
 
 by-role : (r : MpeReceiver) (channel : ℕ) (role : MpeRole) → role_held r.layout channel ≡ role → RatioAs r channel role (pair_by_role r channel role)
 unfolding manager_offset member_offset manager_pair member_pair
@@ -71,7 +71,7 @@ ratio_of r channel answer e = subst (RatioByRole r channel) (sym e) (ratio-by-ro
 
 offset-given : (r : MpeReceiver) (channel : ℕ) (role : MpeRole) (p : OffsetWithRemainder) → pair_by_role r channel role ≡ given p → offset_by_role r channel role ≡ given p.offset
 unfolding manager_offset member_offset manager_pair member_pair
-offset-given r channel NoZone p e = let n : ◌≡◌ {A = ℕ} 0 1 = cc in absurd (omega arith)
+offset-given r channel NoZone p e = cc
 offset-given r channel (Manager zone) p e =
     let q : manager_pair r zone ≡ p = cc in
     ap (λ (x : OffsetWithRemainder). given x.offset) q
@@ -84,8 +84,8 @@ pair-offset r channel p e = offset-given r channel (role_held r.layout channel) 
 
 none-given : (r : MpeReceiver) (channel : ℕ) (role : MpeRole) → pair_by_role r channel role ≡ none_there → offset_by_role r channel role ≡ none_there
 none-given r channel NoZone e = refl
-none-given r channel (Manager zone) e = let n : ◌≡◌ {A = ℕ} 0 1 = cc in absurd (omega arith)
-none-given r channel (Member zone) e = let n : ◌≡◌ {A = ℕ} 0 1 = cc in absurd (omega arith)
+none-given r channel (Manager zone) e = cc
+none-given r channel (Member zone) e = cc
 
 pub pair-none : (r : MpeReceiver) (channel : ℕ) → pair_of r channel ≡ none_there → offset_of r channel ≡ none_there
 pair-none r channel e = none-given r channel (role_held r.layout channel) e

@@ -18,40 +18,13 @@ new_receiver =
     }
 
 abbrev pub with_bends : MpeReceiver → List ℕ → MpeReceiver
-with_bends r l =
-    record {
-      layout = r.layout;
-      lower_mono = r.lower_mono;
-      upper_mono = r.upper_mono;
-      sensitivity = r.sensitivity;
-      pitch_bend = l;
-      pressure = r.pressure;
-      brightness = r.brightness;
-    }
+with_bends r l = record r { pitch_bend = l }
 
 abbrev pub with_pressures : MpeReceiver → List ℕ → MpeReceiver
-with_pressures r l =
-    record {
-      layout = r.layout;
-      lower_mono = r.lower_mono;
-      upper_mono = r.upper_mono;
-      sensitivity = r.sensitivity;
-      pitch_bend = r.pitch_bend;
-      pressure = l;
-      brightness = r.brightness;
-    }
+with_pressures r l = record r { pressure = l }
 
 abbrev pub with_brightnesses : MpeReceiver → List ℕ → MpeReceiver
-with_brightnesses r l =
-    record {
-      layout = r.layout;
-      lower_mono = r.lower_mono;
-      upper_mono = r.upper_mono;
-      sensitivity = r.sensitivity;
-      pitch_bend = r.pitch_bend;
-      pressure = r.pressure;
-      brightness = l;
-    }
+with_brightnesses r l = record r { brightness = l }
 
 -- the layout, the modes and the sensitivities, apart from the controls of the channels
 abbrev pub zones_of : MpeReceiver → Zones
@@ -66,12 +39,9 @@ zones_of r =
 -- other zones, and the channels as they were
 abbrev pub with_zones : MpeReceiver → Zones → MpeReceiver
 with_zones r z =
-    record {
+    record r {
       layout = z.layout;
       lower_mono = z.lower_mono;
       upper_mono = z.upper_mono;
       sensitivity = z.sensitivity;
-      pitch_bend = r.pitch_bend;
-      pressure = r.pressure;
-      brightness = r.brightness;
     }

@@ -20,19 +20,15 @@ use Rattle.mpe_zones.specs.declared.Zones.{Zones}
 
 -- one field anew
 abbrev pub with_layout : Zones → MpeLayout → Zones
-with_layout z l =
-    record { layout = l; lower_mono = z.lower_mono; upper_mono = z.upper_mono; sensitivity = z.sensitivity }
+with_layout z l = record z { layout = l }
 
 abbrev pub with_sensitivities : Zones → List ℕ → Zones
-with_sensitivities z l =
-    record { layout = z.layout; lower_mono = z.lower_mono; upper_mono = z.upper_mono; sensitivity = l }
+with_sensitivities z l = record z { sensitivity = l }
 
 -- mode 4 (mono) or 3 (poly) of a zone
 abbrev pub with_mono : Zones → MpeZone → Bool → Zones
-with_mono z Lower m =
-    record { layout = z.layout; lower_mono = m; upper_mono = z.upper_mono; sensitivity = z.sensitivity }
-with_mono z Upper m =
-    record { layout = z.layout; lower_mono = z.lower_mono; upper_mono = m; sensitivity = z.sensitivity }
+with_mono z Lower m = record z { lower_mono = m }
+with_mono z Upper m = record z { upper_mono = m }
 
 abbrev pub mono_of : Zones → MpeZone → Bool
 mono_of z Lower = z.lower_mono
