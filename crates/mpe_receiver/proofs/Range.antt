@@ -5,7 +5,6 @@ use mathlib.Core.Path.{◌≡◌, subst}
 use mathlib.Core.Bool.{true, false}
 use lib.Dec.{lit≤}
 use lib.IntN.{ℤ}
-use native.Mathlib.Omega.{arith}
 use Rattle.ump.specs.Outcome.{given}
 use Rattle.mpe_layout.specs.declared.MpeRole.{MpeRole}
 use Rattle.mpe_layout.specs.declared.MpeRole.TheVariants.{NoZone, Manager, Member}

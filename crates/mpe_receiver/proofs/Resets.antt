@@ -2,7 +2,7 @@
 -- Assumes nothing.
 use Prim.Native.Nat.{ℕ, zero, suc, ◌<◌, ◌≤◌}
 use mathlib.Core.Path.{◌≡◌, refl, sym, ap, subst, ◌∙◌}
-use mathlib.Core.Bool.{Bool, true, false, true≢false}
+use mathlib.Core.Bool.{Bool, true, false}
 use mathlib.Core.Logic.{⊎_elim, ◌≢◌}
 use mathlib.Core.List.{List}
 use native.Mathlib.Nat.{mod-lt, mod-mod, eq-or-lt_of_le, le_of_suc-le-suc, not-suc-le-zero}
@@ -11,7 +11,7 @@ use lib.ListN.{length, get_or}
 use lib.Seq.{get_or-set_same, get_or-set_other}
 use lib.Dec.{lit<}
 use Rattle.ump.specs.Choice.{when◌then◌else◌}
-use Rattle.ump.specs.Outcome.{Outcome, given, declined, out_of_range}
+use Rattle.ump.specs.Outcome.{given}
 use Rattle.ump.specs.Packet.{packet_value}
 use Rattle.ump.specs.Word.{opcode_of, channel_of, first_of, second_of, word_form}
 use Rattle.ump.proofs.Cases.{by-test, of-both, chosen, passed}
@@ -19,7 +19,7 @@ use Rattle.std.specs.Prelude.{Option}
 use Rattle.parameter_event.specs.declared.ParameterEvent.{ParameterEvent}
 use Rattle.mpe_layout.specs.declared.MpeLayout.{MpeLayout}
 use Rattle.mpe_layout.specs.Layout.{legal}
-use Rattle.mpe_reset.specs.Reset.{named, mask_or_zero}
+use Rattle.mpe_reset.specs.Reset.{named}
 use Rattle.mpe_zones.specs.declared.Zones.{Zones}
 use Rattle.mpe_zones.specs.Zones.{with_zones_of, layout_resets}
 use Rattle.mpe_event.specs.declared.MpeEvent.{MpeEvent}
@@ -75,19 +75,12 @@ module _ (r : MpeReceiver) (z : Zones) (mask channel : ℕ) (w : ReceiverFormed 
         its_brightness = at_rest 64 r.brightness w.brightnesses;
       }
 
-is_given : {A : Type 0} → Outcome A → Bool
-is_given (given x) = true
-is_given (declined n v) = false
-
 -- what is answered is the event of a word that has the form
 reply-given : (r : MpeReceiver) (e : Option ParameterEvent) (event : MpeEvent) (w : ℕ) → receiver_reply r w e ≡ given event → (word_form w ≡ true) × ((received_by_word r e w).event ≡ event)
-unfolding is_given
 reply-given r e event w is =
     by-test (word_form w)
-    (λ h.
-    let p : ◌≡◌ {A = Outcome MpeEvent} (given (received_by_word r e w).event) (given event) = sym (chosen (given (received_by_word r e w).event) out_of_range h) ∙ is in
-    (h, cc))
-    (λ h. absurd (true≢false (sym (ap is_given (sym (passed (given (received_by_word r e w).event) out_of_range h) ∙ is)))))
+    (λ h. let p = rw h at is in (h, cc))
+    (λ h. let p = rw h at is in cc)
 
 -- a message leaves what it stored, put to rest where its event resets the channel
 word-rests : (r : MpeReceiver) (e : Option ParameterEvent) (w channel : ℕ) → ReceiverFormed r → word_form w ≡ true → Rested (reset_in (received_by_word r e w).event) (stored_by r w) (receiver_after r w e) channel
@@ -123,16 +116,15 @@ other-message-stored r e event w channel f is n =
     }
 
 layout-rests : (r : MpeReceiver) (l : MpeLayout) (mask channel : ℕ) → ReceiverFormed r → set_reply r l ≡ given mask → Rested mask r (set_state r l) channel
-unfolding is_given
 layout-rests r l mask channel w is =
     let resets = layout_resets r.layout l in
     let z = with_zones_of (zones_of r) l in
     by-test (legal l)
     (λ h.
-    subst (λ m. Rested mask r m channel) (sym (chosen (rest_upto (with_zones r z) resets 16) r h))
-    (subst (λ m. Rested mask r (rest_upto (with_zones r z) m 16) channel) (sym (ap mask_or_zero (sym (chosen (given resets) out_of_range h) ∙ is)))
-    (rested r z mask channel w)))
-    (λ h. absurd (true≢false (sym (ap is_given (sym (passed (given resets) out_of_range h) ∙ is)))))
+    let p = rw h at is in
+    let same : mask ≡ resets = cc in
+    subst (λ m. Rested mask r m channel) (sym (chosen (rest_upto (with_zones r z) resets 16) r h)) (rw same (rested r z resets channel w)))
+    (λ h. let p = rw h at is in cc)
 
 pub mask_rests : MaskRests
 mask_rests = record { of_message = message-rests; of_other_message = other-message-stored; of_layout = layout-rests }
