@@ -2,59 +2,31 @@
 #![tactic(auto)]
 
 ghost use Rattle.std.specs.Prelude.{◌≡◌, map, ◌<◌};
-ghost use Rattle.ump.specs.Outcome.{answered};
-ghost use Rattle.receiving_end.specs.End.{event_in, mpe_in, stepped, message_at, message_step, answer_step, step_reply, step_end};
+ghost use Rattle.receiving_end.specs.End.{message_at, message_step, answer_step, step_reply, step_end};
 ghost use Rattle.receiving_end.specs.Lists.{byte_by_value, byte_lent, replied, answer, next, after, after_bytes};
 
-use byte_reader::{Read, Reader};
-use mpe_event::{MpeEvent, MpeReply};
-use parameters::MaybeEvent;
+use byte_reader::{Read, ReadStep, Reader};
+use mpe_event::MpeEvent;
 use receiving_end::end::{End, Reply, Stepped};
 use ump::channel_voice1::channel;
 
-fn event_in(reply: parameters::Reply) -> MaybeEvent
-    ensures { result ≡ event_in (answered reply) }
-{
-    match reply {
-        parameters::Reply::Received(e) => e,
-        parameters::Reply::OutOfRange => MaybeEvent::NoEvent,
-    }
-}
-
-fn mpe_in(reply: MpeReply) -> MpeEvent
-    ensures { result ≡ mpe_in (answered reply) }
-{
-    match reply {
-        MpeReply::Received(e) => e,
-        MpeReply::OutOfRange => MpeEvent::Ignored,
-    }
-}
-
-// An end after a byte, and the byte's reply.
-fn replying(end: End, reply: Reply) -> Stepped
-    ensures { result ≡ stepped end reply }
-{
-    Stepped { end, reply }
-}
-
 // A message of channel k: its parameters receive it first, and the receiver gets their event.
+#[tactic(auto, using(receiving_end::proofs::Given::unwrapped), unfolding(receiving_end::specs::End::message_at))]
 fn message_at(end: End, k: usize, word: u32) -> Stepped
     requires { k < 16 }
     ensures { result ≡ message_at end k word }
 {
-    let p = end.parameters[k];
-    let updated = p.receive(word);
-    let state = updated.state;
-    let reply = updated.reply;
-    let receiver = end.receiver;
-    let got = receiver.receive(word, event_in(reply));
-    let next = got.receiver;
-    let answered = got.reply;
-    let event = mpe_in(answered);
-    let mut n = end;
-    n.parameters[k] = state;
-    n.receiver = next;
-    replying(n, Reply::Message(word, event))
+    let updated = end.parameters[k].receive(word);
+    let got = end.receiver.receive(word, updated.reply.unwrap_or(None));
+    let mut n = End {
+        receiver: got.receiver,
+        ..end
+    };
+    n.parameters[k] = updated.state;
+    Stepped {
+        end: n,
+        reply: Reply::Message(word, got.reply.unwrap_or(MpeEvent::Ignored)),
+    }
 }
 
 fn message(end: End, word: u32) -> Stepped
@@ -64,51 +36,46 @@ fn message(end: End, word: u32) -> Stepped
 }
 
 // What the reader gave reaches the end.
-fn answer(end: End, next: Reader, read: Read) -> Stepped
-    ensures { result ≡ answer_step end next read }
+fn answer(end: End, reader: Reader, read: Read) -> Stepped
+    ensures { result ≡ answer_step end reader read }
 {
-    let mut n = end;
-    n.reader = next;
-    match read {
-        Read::Quiet => replying(n, Reply::Quiet),
-        Read::Dropped => replying(n, Reply::Dropped),
-        Read::RealTime(b) => replying(n, Reply::RealTime(b)),
-        Read::Message(word) => message(n, word),
-    }
+    let end = End { reader, ..end };
+    let reply = match read {
+        Read::Quiet => Reply::Quiet,
+        Read::Dropped => Reply::Dropped,
+        Read::RealTime(b) => Reply::RealTime(b),
+        Read::Message(word) => return message(end, word),
+    };
+    Stepped { end, reply }
 }
 
 // The byte call, by value.
+#[tactic(auto, unfolding(receiving_end::specs::End::step_of))]
 pub fn step(end: End, b: u8) -> Stepped
     ensures { ((result.reply ≡ step_reply end b) × (result.end ≡ step_end end b)) × ((answer end (byte_by_value b) ≡ replied result.reply) × (next end (byte_by_value b) ≡ result.end)) }
 {
-    let reader = end.reader;
-    let s = reader.step(b);
-    let next = s.reader;
-    let read = s.read;
-    answer(end, next, read)
+    let ReadStep { reader, read } = end.reader.step(b);
+    answer(end, reader, read)
 }
 
 // The byte call on a lent end: the end is taken apart, and what `step` makes of it is put in its place.
 pub fn byte(end: &mut End, b: u8) -> Reply
     ensures { ((result ≡ step_reply end.old b) × (end.new ≡ step_end end.old b)) × ((answer end.old (byte_lent b) ≡ replied result) × (next end.old (byte_lent b) ≡ end.new)) }
 {
-    let e = *end;
-    let s = step(e, b);
-    *end = s.end;
-    s.reply
+    let Stepped { end: after, reply } = step(*end, b);
+    *end = after;
+    reply
 }
 
 // The end after all of these bytes: a list of byte calls.
+#[tactic(auto, using(receiving_end::proofs::Bytes::one_byte_more), unfolding(receiving_end::specs::Lists::after_bytes))]
 pub fn step_all(end: End, bytes: &[u8]) -> End
     ensures is { result ≡ after_bytes end bytes.now }
     ensures calls { result ≡ after end (map byte_by_value bytes.now) }
 {
-    let mut e = end;
-    let mut i: usize = 0;
-    while i < bytes.len() {
-        let s = step(e, bytes[i]);
-        e = s.end;
-        i += 1;
+    let mut after = end;
+    for b in bytes {
+        after = step(after, *b).end;
     }
-    e
+    after
 }

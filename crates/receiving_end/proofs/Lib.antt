@@ -1,4 +1,5 @@
 -- Laws that proofs of this crate and of those above it cite.
+pub mod Given
 pub mod Bytes
 pub mod Messages
 pub mod Parts

@@ -9,7 +9,6 @@ use Rattle.parameters.specs.State.{new_state, number, rpn_switched, nrpn_switche
 use Rattle.parameters.specs.State as parameter
 use Rattle.mpe_layout.specs.declared.MpeLayout.{MpeLayout}
 use Rattle.mpe_receiver.specs.declared.MpeReceiver.{MpeReceiver}
-use Rattle.mpe_event.specs.declared.MpeEvent.{MpeEvent}
 use Rattle.mpe_event.specs.declared.MpeEvent.TheVariants.{Ignored}
 use Rattle.mpe_receiver.specs.State.{new_receiver}
 use Rattle.mpe_receiver.specs.Receive as receiver
@@ -44,21 +43,17 @@ blank_state =
 abbrev pub parameter_at : End → ℕ → ParameterState
 parameter_at e k = get_or e.parameters k blank_state
 
--- what the parts give for a word of the form of a message; the reader makes no other
-abbrev pub event_in : Outcome (Option ParameterEvent) → Option ParameterEvent
-event_in (given e) = e
-event_in (declined n v) = None
-
-abbrev pub mpe_in : Outcome MpeEvent → MpeEvent
-mpe_in (given e) = e
-mpe_in (declined n v) = Ignored
+-- the value that a call gives, or d where it declines
+abbrev pub given_or : {A : Type 0} → A → Outcome A → A
+given_or d (given a) = a
+given_or d (declined n v) = d
 
 abbrev pub stepped : End → Reply → Stepped
 stepped e r = record { end = e; reply = r }
 
--- the event that the channel's parameters give for a word
+-- the event that the channel's parameters give for a word; the reader makes no word that they decline
 abbrev pub parameter_event_at : ParameterState → ℕ → Option ParameterEvent
-parameter_event_at p w = event_in (parameter.parameter_reply p w)
+parameter_event_at p w = given_or None (parameter.parameter_reply p w)
 
 -- a message reaches its channel's parameters first, and then the receiver with their event
 unfoldable pub message_at : End → ℕ → ℕ → Stepped
@@ -66,7 +61,7 @@ message_at e k w =
     stepped
     (with_receiver (with_parameter e k (parameter.parameter_after (parameter_at e k) w))
     (receiver.receiver_after e.receiver w (parameter_event_at (parameter_at e k) w)))
-    (Message w (mpe_in (receiver.receiver_reply e.receiver w (parameter_event_at (parameter_at e k) w))))
+    (Message w (given_or Ignored (receiver.receiver_reply e.receiver w (parameter_event_at (parameter_at e k) w))))
 
 abbrev pub message_step : End → ℕ → Stepped
 message_step e w = message_at e (channel_of w) w
