@@ -2,68 +2,24 @@
 // or `-` for a channel in no zone.
 #![tactic(auto)]
 
-use mpe_layout::{FoundRole, MadeLayout, MpeLayout, MpeRole, MpeZone};
+use mpe_layout::{MpeLayout, MpeRole, MpeZone};
 use std::env::FillError;
 use std::rt::Env;
 
-// What an argument says.
-#[derive(Clone, Copy)]
-enum Given {
-    // 0 to 15
-    Members(u8),
-    Other,
-}
-
-// What the arguments ask for.
-#[derive(Clone, Copy)]
-enum Asked {
-    // The member counts of Lower and of Upper.
-    Layout(u8, u8),
-    Nothing,
-}
-
-fn digit(character: u8) -> Given {
-    if character < b'0' {
-        return Given::Other;
-    }
-    if b'9' < character {
-        return Given::Other;
-    }
-    Given::Members(character - b'0')
-}
-
-// 10 to 15.
-fn after_ten(units: Given) -> Given {
-    let Given::Members(n) = units else {
-        return Given::Other;
-    };
-    if 5 < n {
-        return Given::Other;
-    }
-    Given::Members(10 + n)
-}
-
 // One digit, or two from 10 to 15.
-fn members(text: &[u8]) -> Given {
-    if text.len() == 1 {
-        return digit(text[0]);
+fn members(text: &[u8]) -> Option<u8> {
+    match text {
+        [units @ b'0'..=b'9'] => Some(*units - b'0'),
+        [b'1', units @ b'0'..=b'5'] => Some(10 + (*units - b'0')),
+        _ => None,
     }
-    if text.len() != 2 {
-        return Given::Other;
-    }
-    if text[0] != b'1' {
-        return Given::Other;
-    }
-    after_ten(digit(text[1]))
 }
 
 // Argument i; one that is missing or longer than a buffer says no member count.
-fn argument(rt: &impl Env, i: usize) -> Given {
+fn argument(rt: &impl Env, i: usize) -> Option<u8> {
     let mut text = [0u8; 4096];
-    match rt.arg(i, &mut text) {
-        Ok(n) => members(&text[..n]),
-        Err(_) => Given::Other,
-    }
+    let n = rt.arg(i, &mut text).ok()?;
+    members(&text[..n])
 }
 
 // There is an argument i, whatever it says.
@@ -72,72 +28,49 @@ fn is_given(rt: &impl Env, i: usize) -> bool {
     !matches!(rt.arg(i, &mut text), Err(FillError::NotPresent))
 }
 
-fn print_zone(rt: &impl Print, zone: MpeZone) -> bool {
-    match zone {
-        MpeZone::Lower => print!(rt; "Lower ").is_ok(),
-        MpeZone::Upper => print!(rt; "Upper ").is_ok(),
+// The member counts that the two arguments give, Lower's first; argument 0 is the program's name.
+fn counts_asked(rt: &impl Env) -> Option<(u8, u8)> {
+    if is_given(rt, 3) {
+        return None;
     }
+    Some((argument(rt, 1)?, argument(rt, 2)?))
 }
 
-fn print_role(rt: &impl Print, role: MpeRole) -> bool {
+fn role_text(role: MpeRole) -> &'static str {
     match role {
-        MpeRole::NoZone => println!(rt; "-").is_ok(),
-        MpeRole::Manager(zone) => print_zone(rt, zone) && println!(rt; "manager").is_ok(),
-        MpeRole::Member(zone) => print_zone(rt, zone) && println!(rt; "member").is_ok(),
+        MpeRole::NoZone => "-",
+        MpeRole::Manager(MpeZone::Lower) => "Lower manager",
+        MpeRole::Manager(MpeZone::Upper) => "Upper manager",
+        MpeRole::Member(MpeZone::Lower) => "Lower member",
+        MpeRole::Member(MpeZone::Upper) => "Upper member",
     }
 }
 
 // The line of a channel; false where it cannot be written. The layout is legal: it was made by `new`.
 fn print_channel(rt: &impl Print, layout: MpeLayout, channel: u8) -> bool {
-    let found = layout.role(channel);
-    let FoundRole::Role(role) = found else {
-        return false;
-    };
-    print!(rt; "{channel} ").is_ok() && print_role(rt, role)
+    layout.role(channel).is_ok_and(|role| {
+        let text = role_text(role);
+        println!(rt; "{channel} {text}").is_ok()
+    })
 }
 
-fn print_channels(rt: &impl Print, layout: MpeLayout) -> bool {
-    for channel in 0..16u8 {
-        if !print_channel(rt, layout, channel) {
-            return false;
-        }
+// Prints the roles of the layout that is asked for, or says why there are none.
+fn print_roles(rt: &(impl Env + Print)) -> Result<(), &'static str> {
+    let (lower, upper) = counts_asked(rt).ok_or(
+        "the arguments are the member counts of Lower and of Upper, 0 to 15 each",
+    )?;
+    let layout = MpeLayout::new(lower, upper).map_err(
+        |_| "two zones have at most 14 members in all",
+    )?;
+    if (0..16u8).all(|channel| print_channel(rt, layout, channel)) {
+        Ok(())
+    } else {
+        Err("standard output cannot be written")
     }
-    true
-}
-
-// The roles of the layout, or why there are none.
-fn print_roles(rt: &(impl Print + Eprint), lower: u8, upper: u8) {
-    let made = MpeLayout::new(lower, upper);
-    let MadeLayout::Made(layout) = made else {
-        let _ = eprintln!(rt; "roles: two zones have at most 14 members in all");
-        return;
-    };
-    if !print_channels(rt, layout) {
-        let _ = eprintln!(rt; "roles: standard output cannot be written");
-    }
-}
-
-// The member counts that the two arguments give, Lower's first; argument 0 is the program's name.
-fn layout_asked(rt: &impl Env) -> Asked {
-    if !is_given(rt, 2) || is_given(rt, 3) {
-        return Asked::Nothing;
-    }
-    let Given::Members(lower) = argument(rt, 1) else {
-        return Asked::Nothing;
-    };
-    let Given::Members(upper) = argument(rt, 2) else {
-        return Asked::Nothing;
-    };
-    Asked::Layout(lower, upper)
 }
 
 fn main(rt: HostRuntime) {
-    match layout_asked(&rt) {
-        Asked::Layout(lower, upper) => print_roles(&rt, lower, upper),
-        Asked::Nothing => {
-            let _ = eprintln!(rt;
-                "roles: the arguments are the member counts of Lower and of Upper, 0 to 15 each"
-            );
-        }
+    if let Err(refusal) = print_roles(&rt) {
+        let _ = eprintln!(rt; "roles: {refusal}");
     }
 }
