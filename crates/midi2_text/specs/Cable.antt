@@ -3,7 +3,7 @@ use Rattle.std.specs.Prelude.{ℕ, List, [], ◌∷◌, ◌++◌}
 use Rattle.ump.specs.Outcome.{Outcome, given}
 use Rattle.receiving_end.specs.declared.end.End.{End}
 use Rattle.receiving_end.specs.declared.end.Reply.{Reply}
-use Rattle.receiving_end.specs.declared.end.Reply.TheVariants.{Quiet, Dropped, RealTime, Message}
+use Rattle.receiving_end.specs.declared.end.Reply.TheVariants.{Message}
 use Rattle.receiving_end.specs.End.{new_end, step_reply, step_end}
 use Rattle.translate_state.specs.declared.Midi1ToMidi2Group.{Midi1ToMidi2Group}
 use Rattle.translate_state.specs.State.{new_record}
@@ -19,17 +19,13 @@ new_cable = cable_of new_end new_record
 
 -- the words for a byte's reply: those of its message, or none
 abbrev pub reply_words : Midi1ToMidi2Group → Reply → Outcome (List ℕ)
-reply_words t Quiet = given []
-reply_words t Dropped = given []
-reply_words t (RealTime b) = given []
 reply_words t (Message w e) = translation_of t w
+reply_words t _ = given []
 
 -- the translator after it
 abbrev pub reply_record : Midi1ToMidi2Group → Reply → Midi1ToMidi2Group
-reply_record t Quiet = t
-reply_record t Dropped = t
-reply_record t (RealTime b) = t
 reply_record t (Message w e) = record_after t w
+reply_record t _ = t
 
 -- a byte's words, and the cable after it
 abbrev pub heard_reply : Cable → ℕ → Outcome (List ℕ)
@@ -59,10 +55,8 @@ heard_words c (b ∷ bs) = words_answered (heard_reply c b) ++ heard_words (hear
 
 -- the messages that an end reads, in order
 abbrev pub message_in : Reply → List ℕ
-message_in Quiet = []
-message_in Dropped = []
-message_in (RealTime b) = []
 message_in (Message w e) = w ∷ []
+message_in _ = []
 
 unfoldable pub messages_read : End → List ℕ → List ℕ
 messages_read e [] = []

@@ -7,8 +7,9 @@ ghost use Rattle.midi2_text.specs.Cable.{cable_of, new_cable, reply_words, reply
 
 use byte_call::step;
 use receiving_end::end::{End, Reply};
-use translate::{Translated, Translation, translate_words};
+use translate::{Translated, translate_words};
 use translate_state::Midi1ToMidi2Group;
+use ump::reply::OutOfRange;
 
 #[derive(Clone, Copy)]
 pub struct Cable {
@@ -20,7 +21,7 @@ pub struct Cable {
 #[derive(Clone, Copy)]
 pub struct Heard {
     pub cable: Cable,
-    pub reply: Translation,
+    pub reply: Result<Option<[u32; 2]>, OutOfRange>,
 }
 
 // The translation of a byte's reply: a message is translated, and nothing else gives words.
@@ -29,17 +30,9 @@ fn translate_reply(translator: Midi1ToMidi2Group, reply: Reply) -> Translated
 {
     match reply {
         Reply::Message(word, _) => translate_words(translator, word),
-        Reply::RealTime(_) => Translated {
+        Reply::RealTime(_) | Reply::Quiet | Reply::Dropped => Translated {
             translator,
-            reply: Translation::Nothing,
-        },
-        Reply::Quiet => Translated {
-            translator,
-            reply: Translation::Nothing,
-        },
-        Reply::Dropped => Translated {
-            translator,
-            reply: Translation::Nothing,
+            reply: Ok(None),
         },
     }
 }
@@ -48,11 +41,12 @@ fn translate_reply(translator: Midi1ToMidi2Group, reply: Reply) -> Translated
 fn of_parts(end: End, translated: Translated) -> Heard
     ensures { (result.reply ≡ translated.reply) × (result.cable ≡ cable_of end translated.translator) }
 {
-    let translator = translated.translator;
-    let reply = translated.reply;
     Heard {
-        cable: Cable { end, translator },
-        reply,
+        cable: Cable {
+            end,
+            translator: translated.translator,
+        },
+        reply: translated.reply,
     }
 }
 
@@ -77,12 +71,8 @@ impl Cable {
         ensures list { ((bytes : List ℕ) → heard_words self (byte ∷ bytes) ≡ words_answered (translation_read result.reply) ++ heard_words result.cable bytes) × (heard_words self [] ≡ []) }
         ensures after { ((bytes : List ℕ) → cable_after self (byte ∷ bytes) ≡ cable_after result.cable bytes) × (cable_after self [] ≡ self) }
     {
-        let end = self.end;
-        let translator = self.translator;
-        let stepped = step(end, byte);
-        let next = stepped.end;
-        let reply = stepped.reply;
-        of_parts(next, translate_reply(translator, reply))
+        let stepped = step(self.end, byte);
+        of_parts(stepped.end, translate_reply(self.translator, stepped.reply))
     }
 
     // Sends the pending entry of a channel, in group 0.
@@ -92,8 +82,6 @@ impl Cable {
         ensures list { ((channels : List ℕ) → flushed_words self (channel ∷ channels) ≡ words_answered (translation_read result.reply) ++ flushed_words result.cable channels) × (flushed_words self [] ≡ []) }
         ensures after { ((channels : List ℕ) → flushed_after self (channel ∷ channels) ≡ flushed_after result.cable channels) × (flushed_after self [] ≡ self) }
     {
-        let end = self.end;
-        let translator = self.translator;
-        of_parts(end, translate::flush(translator, 0, channel))
+        of_parts(self.end, translate::flush(self.translator, 0, channel))
     }
 }
