@@ -13,7 +13,7 @@ use ump::reply::OutOfRange;
 // A parameter number: each half 0 to 127, or 0x80 where it was not received.
 // 0x80 stands in the place of None: it is a part of End, which is lent to firmware (bench_lent_c), byte for byte.
 #[repr(C)]
-#[derive(Clone, Copy)]
+#[derive(Clone, Copy, Debug, PartialEq, Eq)]
 pub struct Number {
     pub msb: u8,
     pub lsb: u8,
@@ -48,7 +48,7 @@ impl Number {
 
 // The parameter receiver of one channel: both numbers, the kind stored last, and the reception of each kind.
 #[repr(C)]
-#[derive(Clone, Copy)]
+#[derive(Clone, Copy, Debug, PartialEq, Eq)]
 pub struct ParameterState {
     pub rpn: Number,
     pub nrpn: Number,
@@ -58,14 +58,14 @@ pub struct ParameterState {
 }
 
 // What a message gave: the next state, and at most one event.
-#[derive(Clone, Copy)]
+#[derive(Clone, Copy, Debug, PartialEq, Eq)]
 pub struct ParameterUpdate {
     pub state: ParameterState,
     pub event: Option<ParameterEvent>,
 }
 
 // What `receive` answers.
-#[derive(Clone, Copy)]
+#[derive(Clone, Copy, Debug, PartialEq, Eq)]
 pub struct Received {
     pub state: ParameterState,
     pub reply: Result<Option<ParameterEvent>, OutOfRange>,
