@@ -47,6 +47,7 @@ impl Number {
 }
 
 // The parameter receiver of one channel: both numbers, the kind stored last, and the reception of each kind.
+// The two kinds are fields and no array, and have a function each, by the same reason: it is a part of End.
 #[repr(C)]
 #[derive(Clone, Copy, Debug, PartialEq, Eq)]
 pub struct ParameterState {

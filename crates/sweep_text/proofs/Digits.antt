@@ -1,14 +1,13 @@
 -- The digits of a number: one alone, or the last behind the others.
 -- Assumes nothing.
 use mathlib.Core.Path.{◌≡◌, refl, ◌∙◌, ap}
-use mathlib.Core.Bool.{Bool, true, false}
 use Prim.Native.Nat.{ℕ, zero, suc, ◌+◌, ◌-◌, ◌*◌, ◌/◌, ◌%◌, ◌^◌, ◌<◌, ◌≤◌}
 use mathlib.Core.List.{List, [], ◌∷◌, ◌++◌, append_assoc}
 use native.Mathlib.Nat.{pow-suc}
 use native.Mathlib.Omega.{arith}
 use lib.Dec.{ltb}
 use borrow.Author.Tests.{lt-ltb, le-ltb, ltb-true, ltb-false}
-use Rattle.ump.specs.Choice.{when◌then◌else◌}
+use Rattle.ump.proofs.Cases.{by-test}
 use Rattle.sweep_text.specs.Decimal.{digits_in, decimal}
 use Rattle.sweep_text.specs.Claims.{number_said, AllDigits, NoLeadingZero, DigitsRead}
 
@@ -21,11 +20,11 @@ enough : (f g n : ℕ) → n ≤ f → n ≤ g → digits_in (suc f) n ≡ digit
 unfolding digits_in
 enough zero g n h l = rw (lt-ltb n 10 (omega arith))
 enough (suc f) zero n h l = rw (lt-ltb n 10 (omega arith))
-enough (suc f) (suc g) n h l = by (ltb n 10) (ltb-false n 10) (λ (v : 10 ≤ n). enough f g (n / 10) (omega arith) (omega arith))
-  where
-    by : (t : Bool) → (t ≡ false → 10 ≤ n) → (10 ≤ n → digits_in (suc f) (n / 10) ≡ digits_in (suc g) (n / 10)) → (when t then (0x30 + n) ∷ [] else digits_in (suc f) (n / 10) ++ ((0x30 + n % 10) ∷ [])) ≡ (when t then (0x30 + n) ∷ [] else digits_in (suc g) (n / 10) ++ ((0x30 + n % 10) ∷ []))
-    by true u r = refl
-    by false u r = ap (λ (x : List ℕ). x ++ ((0x30 + n % 10) ∷ [])) (r (u refl))
+enough (suc f) (suc g) n h l =
+    by-test (ltb n 10)
+    (λ t. rw t)
+    (λ t. let v = ltb-false n 10 t in
+    rw t (ap (λ (x : List ℕ). x ++ ((0x30 + n % 10) ∷ [])) (enough f g (n / 10) (omega arith) (omega arith))))
 
 step : (n : ℕ) → 10 ≤ n → decimal n ≡ digits_in n (n / 10) ++ ((0x30 + n % 10) ∷ [])
 unfolding digits_in
@@ -60,11 +59,9 @@ along P one more n = within n n (omega arith)
     within : (f n : ℕ) → n ≤ f → P n (decimal n)
     within zero n h = let s : n < 10 = omega arith in rw (one-digit n s) (one n s)
     within (suc f) n h =
-        by (ltb n 10) (ltb-true n 10) (ltb-false n 10) (λ (v : 10 ≤ n). within f (n / 10) (omega arith))
-      where
-        by : (t : Bool) → (t ≡ true → n < 10) → (t ≡ false → 10 ≤ n) → (10 ≤ n → P (n / 10) (decimal (n / 10))) → P n (decimal n)
-        by true u v r = rw (one-digit n (u refl)) (one n (u refl))
-        by false u v r = rw (more-digits n (v refl)) (more n (decimal (n / 10)) (v refl) (r (v refl)))
+        by-test (ltb n 10)
+        (λ t. let s = ltb-true n 10 t in rw (one-digit n s) (one n s))
+        (λ t. let v = ltb-false n 10 t in rw (more-digits n v) (more n (decimal (n / 10)) v (within f (n / 10) (omega arith))))
 
 -- ---- the digits say the number
 
@@ -109,9 +106,8 @@ digits-read n =
     record {
       said = number-said n;
       all_digits = along (λ n text. AllDigits text) (λ n h. (omega arith, omega arith, tt)) (λ n text h r. one_more text (0x30 + n % 10) r (omega arith) (omega arith)) n;
-      no_leading_zero = by (ltb n 10) (ltb-true n 10) (ltb-false n 10);
+      no_leading_zero =
+          by-test (ltb n 10)
+          (λ t. rw (one-digit n (ltb-true n 10 t)) tt)
+          (λ t. let v = ltb-false n 10 t in none-leading (decimal n) (positive n (omega arith)));
     }
-  where
-    by : (t : Bool) → (t ≡ true → n < 10) → (t ≡ false → 10 ≤ n) → NoLeadingZero (decimal n)
-    by true u v = rw (one-digit n (u refl)) tt
-    by false u v = let h = v refl in none-leading (decimal n) (positive n (omega arith))
