@@ -4,33 +4,24 @@ use Prim.Native.Nat.{ℕ, ◌+◌, ◌/◌, ◌≤◌}
 use mathlib.Core.Path.{◌≡◌, refl}
 use mathlib.Core.Bool.{Bool, true, false}
 use mathlib.Core.List.{List, [], ◌∷◌}
-use mathlib.Core.Logic.{⊎_elim}
 use native.Mathlib.Omega.{arith}
 use lib.Dec.{ltb}
 use borrow.Author.Tests.{ltb-false}
-use types.Run.{OneOf}
-use denote.Enum.Declared.{tag_of}
+use Rattle.std.specs.Prelude.{Err}
 use Rattle.ump.specs.Choice.{when◌then◌else◌}
 use Rattle.ump.specs.Outcome.{Outcome, given, out_of_range, too_small}
-use Rattle.zone_sender.specs.declared.Written.{Written}
-use Rattle.zone_sender.specs.declared.Written.TheVariants as written
-use Rattle.zone_sender.specs.contracts.Written.{the_type}
+use Rattle.zone_sender.specs.declared.WriteError.{WriteError}
+use Rattle.zone_sender.specs.declared.WriteError.TheVariants as write_error
 use Rattle.zone_sender.specs.Zone.{filled, written_read}
 use Rattle.settings.specs.declared.Settings.{Settings}
 use Rattle.settings.specs.Settings.{allowed}
 use Rattle.mpe_layout.specs.declared.MpeLayout.{MpeLayout}
 use Rattle.settings.specs.Messages.{message_count, byte_count, restated_reply}
 
--- a reply that is no count: the buffer stays, and no number was counted
-pub stays : (r : Written) (words out : List ℕ) → OneOf (1 ∷ 2 ∷ []) (tag_of the_type r) → out ≡ filled (written_read r) words out
-stays (written.Count n) words out t = absurd (⊎_elim (λ e. omega arith) (λ e. omega arith) t)
-stays written.OutOfRange words out t = refl
-stays (written.TooSmall needed got) words out t = refl
-
-pub not-counted : (r : Written) → OneOf (1 ∷ 2 ∷ []) (tag_of the_type r) → (n : ℕ) → written_read r ≡ given n → ⊥
-not-counted (written.Count n) t m e = absurd (⊎_elim (λ e. omega arith) (λ e. omega arith) t)
-not-counted written.OutOfRange t m e = let z : ◌≡◌ {A = ℕ} 0 1 = cc in omega arith
-not-counted (written.TooSmall needed got) t m e = let z : ◌≡◌ {A = ℕ} 0 1 = cc in omega arith
+-- on a refusal the buffer stays
+pub stays : (e : WriteError) (words out : List ℕ) → out ≡ filled (written_read (Err e)) words out
+stays write_error.OutOfRange words out = refl
+stays (write_error.TooSmall needed got) words out = refl
 
 pub same_count : {n m : ℕ} → ◌≡◌ {A = Outcome ℕ} (given n) (given m) → n ≡ m
 same_count e = cc

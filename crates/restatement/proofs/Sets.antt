@@ -25,10 +25,6 @@ turn f m h o at k j p e q =
     rw add-one
     (q ∙ ap (λ l. sets l j (f k)) p ∙ sets-append o at (each_channel f k) (f k) j (ap (λ n. at + n) (each-length f m h k) ∙ e))
 
--- the loop's last turn is over
-pub ended : (f : ℕ → List ℕ) (o : List ℕ) {x : List ℕ} (at k n : ℕ) → x ≡ sets o at (each_channel f k) → k ≡ n → x ≡ sets o at (each_channel f n)
-ended f o at k n p e = p ∙ ap (λ m. sets o at (each_channel f m)) e
-
 -- what was written, and then v right after it
 pub chain : (o : List ℕ) (at : ℕ) (u v : List ℕ) {x y : List ℕ} (j : ℕ) → x ≡ sets o at u → at + length u ≡ j → y ≡ sets x j v → y ≡ sets o at (u ++ v)
 chain o at u v j p e q = q ∙ ap (λ l. sets l j v) p ∙ sets-append o at u v j e
@@ -50,6 +46,10 @@ sets-front l u h = rw zero-add at (sets-eq u l 0 (rw zero-add h))
 -- so the front reads as what was put there
 pub take-front : (l u : List ℕ) (n : ℕ) → length u ≡ n → n ≤ length l → take n (sets l 0 u) ≡ u
 take-front l u n e h = rw (sets-front l u (rw e h)) (take_at u (drop (length u) l) n e)
+
+-- a part that was lent, and came back as a run
+pub put-sets : (xs ys g : List ℕ) (a k : ℕ) → a + length g ≤ length xs → ys ≡ g → k ≡ length g → put_mid a k xs ys ≡ sets xs a g
+put-sets xs ys g a k h e n = rw (e, n, sets-eq g xs a h, ← drop-drop, append_assoc)
 
 -- a part from a on that was lent, and came back with a run at its front
 pub sets-part : (xs ys g : List ℕ) (a : ℕ) → a + length g ≤ length xs → ys ≡ g ++ drop (length g) (mid_of a (length xs - a) xs)

@@ -4,6 +4,7 @@ use Prim.Native.Nat.{ℕ, ◌+◌, ◌/◌}
 use mathlib.Core.List.{◌++◌}
 use lib.ListN.{length, take, drop, replicate}
 use lib.Seq.{sets, length-sets}
+use Rattle.std.proofs.lemmas.List.{length-take-le}
 use Rattle.ump.specs.Outcome.{Outcome, given}
 use Rattle.zone_sender.specs.Zone.{filled, written_read}
 use Rattle.settings.specs.Messages.{messages, bytes, restatement, message_count, byte_count}
@@ -20,12 +21,26 @@ use Rattle.restatement.proofs.restatement_bytes.Goals as goal
 
 pub write_messages-requires : goal.write_messages-requires
 write_messages-requires c = let s = c.args.settings in
-    let q = counted s _ _ _ (sym (ap written_read c.in-Count.is) ∙ c.bytes_reply-reply.ensures.reply) in
+    let q = counted s _ _ _ c.in_ok-n.ensures.reply in
     (q.is-allowed, most-messages s.layout (allowed-legal s q.is-allowed))
+
+pub slice_bounds-words-end : goal.slice_bounds-words-end
+slice_bounds-words-end c = let s = c.args.settings in
+    let q = counted s _ _ _ c.in_ok-n.ensures.reply in
+    let n = c.messages_in.ensures ∙ ap (λ i. (i + 16) / 3) q.is-needed ∙ messages-of s.layout in
+    let f : length c.write_messages.new.out ≡ 174 = ap length c.write_messages.ensures ∙ simp length-sets in
+    omega (arith, f, n, most-messages s.layout (allowed-legal s q.is-allowed))
+
+pub slice_bounds-write_bytes-end : goal.slice_bounds-write_bytes-end
+slice_bounds-write_bytes-end c = let s = c.args.settings in
+    let q = counted s _ _ _ c.in_ok-n.ensures.reply in
+    let n = c.messages_in.ensures ∙ ap (λ i. (i + 16) / 3) q.is-needed ∙ messages-of s.layout in
+    let f : length c.write_messages.new.out ≡ 174 = ap length c.write_messages.ensures ∙ simp length-sets in
+    sym (length-take-le c.messages_in.result c.write_messages.new.out (omega (arith, f, n, most-messages s.layout (allowed-legal s q.is-allowed))))
 
 pub write_bytes-requires : goal.write_bytes-requires
 write_bytes-requires c = let s = c.args.settings in
-    let q = counted s _ _ _ (sym (ap written_read c.in-Count.is) ∙ c.bytes_reply-reply.ensures.reply) in
+    let q = counted s _ _ _ c.in_ok-n.ensures.reply in
     let t = q.is-allowed in
     let most = most-messages s.layout (allowed-legal s t) in
     let ws = c.write_messages.new.out in
@@ -33,15 +48,12 @@ write_bytes-requires c = let s = c.args.settings in
     ap (λ l. take (message_count s.layout) l) c.write_messages.ensures
     ∙ take-front (replicate 174 0) (messages s) (message_count s.layout) (message-count s t) most in
     let n = c.messages_in.ensures ∙ ap (λ i. (i + 16) / 3) q.is-needed ∙ messages-of s.layout in
-    let f : length ws ≡ 174 = ap length c.write_messages.ensures ∙ simp length-sets in (
-      omega (arith, f, n, most),
-      rw (n, v) (omega (arith, byte-count s t, q.fits)),
-    )
+    rw (n, v) (omega (arith, byte-count s t, q.fits))
 
 pub returns : goal.returns
 returns c = let s = c.args.settings in
     let o = c.args.out.now in
-    let p = sym (ap written_read c.in-Count.is) ∙ c.bytes_reply-reply.ensures.reply in
+    let p = c.in_ok-n.ensures.reply in
     let q = counted s _ _ _ p in
     let t = q.is-allowed in
     let ws = c.write_messages.new.out in

@@ -11,25 +11,23 @@ use Rattle.restatement.proofs.Reply.{stays, counted}
 use borrow.Author.Rules.{rules}
 use Rattle.restatement.proofs.restatement_words.Goals as goal
 
-pub returns-in_default : goal.returns-in_default
-returns-in_default c = let s = c.args.settings in
+pub returns-in_err-count-clause-buffer : goal.returns-in_err-count-clause-buffer
+returns-in_err-count-clause-buffer c = let s = c.args.settings in
     let o = c.args.out.now in
-    let p = c.words_reply-reply.ensures.reply in
-    record {
-      reply = p;
-      buffer = stays c.words_reply-reply.result (messages s) o (search rules) ∙ ap (λ r. filled r (messages s) o) p;
-      counts = counts-hold;
-    }
+    stays c.in_err-count.field-0.0 (messages s) o ∙ ap (λ r. filled r (messages s) o) c.in_err-count.ensures.reply
+
+pub returns-in_err-count-clause-counts : goal.returns-in_err-count-clause-counts
+returns-in_err-count-clause-counts c = counts-hold
 
 pub write_messages-requires : goal.write_messages-requires
 write_messages-requires c = let s = c.args.settings in
-    let q = counted s _ _ _ (sym (ap written_read c.in-Count.is) ∙ c.words_reply-reply.ensures.reply) in
+    let q = counted s _ _ _ c.in_ok-count.ensures.reply in
     (q.is-allowed, q.fits)
 
 pub returns : goal.returns
 returns c = let s = c.args.settings in
     let o = c.args.out.now in
-    let p = sym (ap written_read c.in-Count.is) ∙ c.words_reply-reply.ensures.reply in
+    let p = c.in_ok-count.ensures.reply in
     let q = counted s _ _ _ p in
     let m = message-count s q.is-allowed in
     let h : c.write_messages.new.out ≡ messages s ++ drop (message_count s.layout) o =

@@ -1,25 +1,24 @@
 -- `restatement::write_controls` meets its contract: after k turns the channels below k have their messages.
-use Prim.Native.Nat.{◌+◌, ◌*◌, ◌-◌}
-use mathlib.Core.Path.{◌≡◌, refl, ap, ◌∙◌}
-use lib.ListN.{length}
-use lib.Seq.{sets, length-sets}
-use Rattle.settings.specs.Messages.{each_channel, controls_on}
+use Rattle.std.proofs.Common.{◌≡◌, [], ◌∷◌, ◌+◌, ◌*◌, refl, ap, ◌∙◌, arith}
+use Rattle.std.proofs.lemmas.List.Edits.{sets}
+use Rattle.settings.specs.Messages.{controls_on}
 use Rattle.restatement.proofs.Sets.{turn}
-use Rattle.restatement.proofs.Made.{controls-made}
-use native.Mathlib.Omega.{arith}
+use Rattle.restatement.proofs.Made.{is-ok, value-of, controls-made}
 use Rattle.restatement.proofs.write_controls.Goals as goal
 
-pub loop-k-init : goal.loop-k-init
-unfolding each_channel
-loop-k-init c = (omega arith, refl, refl)
+pub unwrap-requires : goal.unwrap-requires
+unwrap-requires c =
+    is-ok _ _ (c.channel_messages-messages.ensures ∙ controls-made c.args.settings c.loop-k.k c.requires.1 (omega arith))
 
 pub loop-k-preserved : goal.loop-k-preserved
-loop-k-preserved c = let i = c.loop-k in
+loop-k-preserved c =
+    let i = c.loop-k in
     let a = c.args in
-    let k = i.k in
-    let e : c.put_three.new.out ≡ sets i.out (a.at + k * 3) (controls_on a.settings k) =
-    c.put_three.ensures ∙ rw (c.channel_messages.ensures, controls-made a.settings k c.requires.1 (omega arith)) in (
-      omega arith,
-      ap length e ∙ simp length-sets i.invariant.1,
-      turn (controls_on a.settings) 3 (λ n. refl) a.out.now a.at k (a.at + k * 3) i.invariant.2 refl e,
-    )
+    let w = value-of _ _ _ (c.channel_messages-messages.ensures ∙ controls-made a.settings i.k c.requires.1 (omega arith)) c.unwrap.ensures in
+    let e : c.put.new.out ≡ sets i.out (a.at + i.k * 3) (controls_on a.settings i.k) = c.put.ensures.buffer ∙ ap (λ m. sets i.out (a.at + i.k * 3) m) w in
+    turn (controls_on a.settings) 3 (λ n. refl) a.out.now a.at i.k (a.at + i.k * 3) i.invariant refl e
+
+pub returns : goal.returns
+returns c =
+    let e : c.loop-k.k ≡ 16 = omega arith in
+    rw e at c.loop-k.invariant

@@ -1,32 +1,24 @@
 -- `restatement::write_deselections` meets its contract: after k turns the channels below k have their messages.
-use Prim.Native.Nat.{◌+◌, ◌*◌, ◌-◌}
-use mathlib.Core.Path.{◌≡◌, refl, ap, ◌∙◌}
-use lib.ListN.{length}
-use lib.Seq.{sets, length-sets}
-use Rattle.settings.specs.Messages.{each_channel, deselection_on}
+use Rattle.std.proofs.Common.{◌≡◌, [], ◌∷◌, ◌+◌, ◌*◌, refl, ap, ◌∙◌, arith}
+use Rattle.std.proofs.lemmas.List.Edits.{sets}
+use Rattle.settings.specs.Messages.{deselection_on}
 use Rattle.restatement.proofs.Sets.{turn}
-use Rattle.restatement.proofs.Made.{control-made}
-use native.Mathlib.Omega.{arith}
+use Rattle.restatement.proofs.Made.{is-ok, value-of, control-made}
 use Rattle.restatement.proofs.write_deselections.Goals as goal
 
-pub loop-k-init : goal.loop-k-init
-unfolding each_channel
-loop-k-init c = (omega arith, refl, refl)
+pub unwrap-msb-requires : goal.unwrap-msb-requires
+unwrap-msb-requires c =
+    is-ok _ _ (c.control_change.ensures ∙ control-made c.loop-k.k 101 127 (omega arith) (omega arith) (omega arith))
+
+pub unwrap-lsb-requires : goal.unwrap-lsb-requires
+unwrap-lsb-requires c =
+    is-ok _ _ (c.control_change-in-loop-k.ensures ∙ control-made c.loop-k.k 100 127 (omega arith) (omega arith) (omega arith))
 
 pub loop-k-preserved : goal.loop-k-preserved
-loop-k-preserved c = let i = c.loop-k in
+loop-k-preserved c =
+    let i = c.loop-k in
     let a = c.args in
-    let k = i.k in
-    let e : c.put_two.new.out ≡ sets i.out (a.at + k * 2) (deselection_on k) =
-    c.put_two.ensures
-    ∙ rw (
-      c.two_words.ensures,
-      c.control_change.ensures,
-      c.control_change-in-loop-k.ensures,
-      control-made k 101 127 (omega arith) (omega arith) (omega arith),
-      control-made k 100 127 (omega arith) (omega arith) (omega arith),
-    ) in (
-      omega arith,
-      ap length e ∙ simp length-sets i.invariant.1,
-      turn deselection_on 2 (λ n. refl) a.out.now a.at k (a.at + k * 2) i.invariant.2 refl e,
-    )
+    let m = value-of _ _ _ (c.control_change.ensures ∙ control-made i.k 101 127 (omega arith) (omega arith) (omega arith)) c.unwrap-msb.ensures in
+    let l = value-of _ _ _ (c.control_change-in-loop-k.ensures ∙ control-made i.k 100 127 (omega arith) (omega arith) (omega arith)) c.unwrap-lsb.ensures in
+    let e : c.put.new.out ≡ sets i.out (a.at + i.k * 2) (deselection_on i.k) = c.put.ensures.buffer ∙ rw (m, l) in
+    turn deselection_on 2 (λ n. refl) a.out.now a.at i.k (a.at + i.k * 2) i.invariant refl e

@@ -1,20 +1,33 @@
 -- `restatement::write_mode` meets its contract: the mode message that is made for the zone, if any.
-use mathlib.Core.Path.{◌≡◌, ap, ◌∙◌}
-use mathlib.Core.List.{◌∷◌, []}
-use Prim.Native.Nat.{◌+◌}
-use lib.ListN.{length}
-use lib.Seq.{sets}
-use Rattle.ump.specs.Outcome.{all_of, answered}
+use Rattle.std.proofs.Common.{◌≡◌, ℕ, [], ◌∷◌, ◌+◌, length, ap, ◌∙◌, arith}
+use Rattle.std.proofs.lemmas.List.Edits.{sets}
+use Rattle.ump.specs.Outcome.{Outcome, given, out_of_range, all_of}
+use Rattle.mpe_sender.specs.Writers.{mode_message}
+use Rattle.settings.specs.Settings.{zone_of, is_mono}
 use Rattle.settings.specs.Messages.{modes, words_in}
 use Rattle.restatement.proofs.Made.{mode-made}
 use Rattle.restatement.proofs.write_mode.Goals as goal
 
-pub returns : goal.returns
-returns c = let s = c.args.settings in
-    let z = c.args.zone in
-    let e : words_in (all_of (answered c.mode_message.result ∷ [])) ≡ modes s z =
-    rw (c.mode_message.ensures, c.shown_mode-mono.ensures) (mode-made s z c.requires.0) in
+pub returns-in-Ok : goal.returns-in-Ok
+returns-in-Ok c =
+    let a = c.args in
+    let s = a.settings in
+    let z = a.zone in
+    let p : given c.in-Ok.message ≡ mode_message s.layout z (is_mono (zone_of s z)) = c.in-Ok.ensures ∙ ap (λ t. mode_message s.layout z (is_mono t)) c.zone_settings-mono.ensures in
+    let e : c.in-Ok.message ∷ [] ≡ modes s z = ap (λ o. words_in (all_of (o ∷ []))) p ∙ mode-made s z c.requires.0 in
     record {
-      place = c.put_one.ensures.place ∙ ap (λ l. c.args.at + length l) e;
-      buffer = c.put_one.ensures.buffer ∙ ap (λ l. sets c.args.out.now c.args.at l) e;
+      place = c.put.ensures.place ∙ ap (λ l. a.at + length l) e;
+      buffer = c.put.ensures.buffer ∙ ap (λ l. sets a.out.now a.at l) e;
+    }
+
+pub returns-in-Err : goal.returns-in-Err
+returns-in-Err c =
+    let a = c.args in
+    let s = a.settings in
+    let z = a.zone in
+    let p : ◌≡◌ {A = Outcome ℕ} out_of_range (mode_message s.layout z (is_mono (zone_of s z))) = c.in-Err.ensures ∙ ap (λ t. mode_message s.layout z (is_mono t)) c.zone_settings-mono.ensures in
+    let e : [] ≡ modes s z = ap (λ o. words_in (all_of (o ∷ []))) p ∙ mode-made s z c.requires.0 in
+    record {
+      place = omega (arith, ap length e);
+      buffer = ap (λ l. sets a.out.now a.at l) e;
     }
