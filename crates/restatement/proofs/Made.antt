@@ -16,7 +16,6 @@ use Rattle.ump.specs.Outcome.{given, all_of, answered}
 use Rattle.ump.specs.declared.reply.OutOfRange.{OutOfRange}
 use Rattle.zone_sender.specs.declared.WriteError.{WriteError}
 use Rattle.zone_sender.specs.declared.WriteError.TheVariants as write_error
-use Rattle.ump.specs.Packet.{packet_value}
 use Rattle.ump.specs.Word.{control_change, two_data_word, one_data_word, bend_word}
 use Rattle.ump.proofs.Cases.{by-test}
 use Rattle.mpe_layout.specs.Layout.{legal, manager_of, lowest_of}

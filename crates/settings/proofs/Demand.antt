@@ -17,7 +17,7 @@ use Rattle.mpe_layout.specs.declared.MpeZone.TheVariants.{Lower, Upper}
 use Rattle.mpe_zones.specs.Zones.{mono_of, slot_of, sensitivity_at}
 use Rattle.receiving_end.specs.declared.end.End.{End}
 use Rattle.receiving_end.specs.End.{new_end, blank_state, parameter_at, step_end}
-use Rattle.receiving_end.specs.Lists.{Call, mode, sensitivity, laid_out, counted, ranged, after, answers, after_bytes}
+use Rattle.receiving_end.specs.Lists.{Call, laid_out, counted, ranged, after, answers, after_bytes}
 use Rattle.receiving_end.proofs.Messages.{system-read}
 use Rattle.receiving_end.proofs.Always.{new-end-formed, always-formed}
 use Rattle.settings.specs.declared.Settings.{Settings}

@@ -6,7 +6,7 @@ use lib.ListN.{length, take, drop, replicate}
 use lib.Seq.{sets, length-sets}
 use Rattle.std.proofs.lemmas.List.{length-take-le}
 use Rattle.ump.specs.Outcome.{Outcome, given}
-use Rattle.zone_sender.specs.Zone.{filled, written_read}
+use Rattle.zone_sender.specs.Zone.{filled}
 use Rattle.settings.specs.Messages.{messages, bytes, restatement, message_count, byte_count}
 use Rattle.settings.specs.Demand.{Demand}
 use Rattle.settings.specs.Witnesses.{Met}

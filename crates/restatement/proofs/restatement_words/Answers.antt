@@ -3,12 +3,11 @@ use mathlib.Core.Path.{◌≡◌, sym, ap, ◌∙◌}
 use mathlib.Core.List.{◌++◌}
 use lib.ListN.{drop}
 use Rattle.ump.specs.Outcome.{given}
-use Rattle.zone_sender.specs.Zone.{filled, written_read}
+use Rattle.zone_sender.specs.Zone.{filled}
 use Rattle.settings.specs.Messages.{messages, message_count}
 use Rattle.settings.proofs.Counts.{message-count, counts-hold}
 use Rattle.restatement.proofs.Sets.{sets-front}
 use Rattle.restatement.proofs.Reply.{stays, counted}
-use borrow.Author.Rules.{rules}
 use Rattle.restatement.proofs.restatement_words.Goals as goal
 
 pub returns-in_err-count-clause-buffer : goal.returns-in_err-count-clause-buffer

@@ -1,5 +1,5 @@
 -- `restatement::write_resets` meets its contract: after k turns the channels below k have their message.
-use Rattle.std.proofs.Common.{◌≡◌, [], ◌∷◌, ◌+◌, ◌*◌, refl, ap, ◌∙◌, arith}
+use Rattle.std.proofs.Common.{◌≡◌, [], ◌∷◌, refl, ap, ◌∙◌, arith}
 use Rattle.std.proofs.lemmas.List.Edits.{sets}
 use Rattle.settings.specs.Messages.{reset_on}
 use Rattle.restatement.proofs.Sets.{turn}

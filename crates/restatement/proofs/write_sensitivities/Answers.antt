@@ -1,7 +1,6 @@
 -- `restatement::write_sensitivities` meets its contract: the part of the buffer comes back with the words of the zone at its front.
-use Rattle.std.proofs.Common.{◌≡◌, ◌+◌, ◌-◌, ◌≤◌, length, ap, ◌∙◌, le_refl, arith}
+use Rattle.std.proofs.Common.{◌≡◌, ◌+◌, ◌-◌, length, ap, ◌∙◌, le_refl, arith}
 use borrow.Rule.Slice.PartMut.{mid_of, mid_len}
-use Rattle.settings.specs.Settings.{allowed}
 use Rattle.settings.specs.Messages.{sensitivities}
 use Rattle.restatement.proofs.Sets.{sets-part}
 use Rattle.restatement.proofs.Made.{count-or-0, sensitivities-made}
