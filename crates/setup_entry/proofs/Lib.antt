@@ -1,3 +1,2 @@
--- Laws of the reply for an entry, and of the entries that follow it.
-pub mod Replies
+-- Laws of the entries that follow one that is taken.
 pub mod Onward

@@ -3,29 +3,21 @@
 #![tactic(auto)]
 
 ghost use Rattle.std.specs.Prelude.{◌≡◌, true, ◌+◌, ◌*◌, ◌<◌, ◌≤◌, ◌^◌, length};
-ghost use Rattle.setup_entry.specs.Entry.{setup_read, settings_taken, zone_entry_in, channel_entry_in};
-ghost use Rattle.setup_file.specs.Format.{entry_size, number_in, zone_entry_within, channel_entry_within, entry_within, unlisted, with_zone, with_channel, settings_with};
-ghost use Rattle.setup_file.specs.Read.{entry_read};
+ghost use Rattle.std.specs.Result.{result_unwrap_or};
+ghost use Rattle.setup_entry.specs.Entry.{setup_read, entry_taken, settings_taken, zone_entry_in, channel_entry_in};
+ghost use Rattle.setup_file.specs.Format.{entry_size, zone_entry_within, channel_entry_within, entry_within, unlisted, with_zone, with_channel, settings_with};
 
 use mpe_pitch::MpeSensitivity;
 use restatement_reply::zone_allowed;
 use settings::{Settings, ZoneSettings};
 use setup_file::{Section, at_rest, entry_size};
 
-// What a reader answers: something was read, or 1, 4 or 5.
-#[derive(Clone, Copy)]
-pub enum SetupReply {
-    Read,
+// Why a setup file or an entry of it is refused: 1, 4 or 5.
+#[derive(Clone, Copy, Debug, PartialEq, Eq)]
+pub enum SetupError {
     OutOfRange,
     WrongLength,
     OutOfOrder,
-}
-
-// The reply for an entry, and the settings with what it says; where it is refused, the settings as they were.
-#[derive(Clone, Copy)]
-pub struct EntryTaken {
-    pub reply: SetupReply,
-    pub settings: Settings,
 }
 
 // The entry of a zone.
@@ -90,41 +82,23 @@ fn bend_in(entry: ChannelEntry) -> u16
 }
 
 // The bytes of a zone's entry are inside their limits.
+#[tactic(auto, unfolding(setup_file::specs::Format::zone_entry_within))]
 fn zone_entry_within(entry: ZoneEntry) -> bool
     ensures { result ≡ zone_entry_within entry.number entry.members entry.zone }
 {
-    if 1 < entry.number {
-        return false;
-    }
-    if entry.members == 0 {
-        return false;
-    }
-    if 15 < entry.members {
-        return false;
-    }
-    zone_allowed(entry.members, entry.zone)
+    entry.number <= 1 && matches!(entry.members, 1..=15) && zone_allowed(entry.members, entry.zone)
 }
 
 // The bytes of a channel's entry are inside their limits.
+#[tactic(auto, unfolding(setup_file::specs::Format::channel_entry_within))]
 fn channel_entry_within(entry: ChannelEntry) -> bool
     ensures { result ≡ channel_entry_within entry.number entry.msb entry.lsb entry.pressure entry.brightness }
 {
-    if 15 < entry.number {
-        return false;
-    }
-    if 127 < entry.msb {
-        return false;
-    }
-    if 127 < entry.lsb {
-        return false;
-    }
-    if 127 < entry.pressure {
-        return false;
-    }
-    if 127 < entry.brightness {
-        return false;
-    }
-    true
+    entry.number <= 15
+        && entry.msb <= 127
+        && entry.lsb <= 127
+        && entry.pressure <= 127
+        && entry.brightness <= 127
 }
 
 // The whole entry is inside its limits.
@@ -152,42 +126,18 @@ fn is_unlisted(section: Section, bytes: &[u8]) -> bool
     }
 }
 
-// The reply for the entry at the front of these bytes, whose number has to be `least` or more.
-fn entry_reply(section: Section, bytes: &[u8], least: u8) -> SetupReply
-    ensures { setup_read result (number_in bytes.now) ≡ entry_read section least bytes.now }
-{
-    let size = entry_size(section);
-    if bytes.len() < size {
-        return SetupReply::WrongLength;
-    }
-    if !entry_within(section, bytes) {
-        return SetupReply::OutOfRange;
-    }
-    if bytes[0] < least {
-        return SetupReply::OutOfOrder;
-    }
-    if is_unlisted(section, bytes) {
-        return SetupReply::OutOfOrder;
-    }
-    SetupReply::Read
-}
-
 // Settings with a zone in the place of the one that they had.
 fn with_zone(entry: ZoneEntry, settings: Settings) -> Settings
     ensures { result ≡ with_zone entry.number entry.members entry.zone settings }
 {
-    let zone = entry.zone;
     let mut s = settings;
-    let mut layout = settings.layout;
     if entry.number == 0 {
-        layout.lower = entry.members;
-        s.layout = layout;
-        s.lower = zone;
-        return s;
+        s.layout.lower = entry.members;
+        s.lower = entry.zone;
+    } else {
+        s.layout.upper = entry.members;
+        s.upper = entry.zone;
     }
-    layout.upper = entry.members;
-    s.layout = layout;
-    s.upper = zone;
     s
 }
 
@@ -218,19 +168,26 @@ fn with_entry(section: Section, bytes: &[u8], settings: Settings) -> Settings
     }
 }
 
-// The reply for an entry at the front of these bytes, whose number has to be `least` or more, and the settings with what it says; where it is refused,
-// the settings as they were.
-pub fn take_entry(section: Section, bytes: &[u8], least: u8, settings: Settings) -> EntryTaken
-    ensures reply { setup_read result.reply (number_in bytes.now) ≡ entry_read section least bytes.now }
-    ensures settings { result.settings ≡ settings_taken section least bytes.now settings }
+// The settings with what the entry at the front of these bytes says, whose number has to be `least` or more, or why it is refused. What `settings` says is
+// that one that is refused leaves them as they were.
+#[tactic(auto, using(ump::proofs::Auto::auto), unfolding(setup_file::specs::Read::entry_read))]
+pub fn take_entry(
+    section: Section,
+    bytes: &[u8],
+    least: u8,
+    settings: Settings,
+) -> Result<Settings, SetupError>
+    ensures reply { setup_read result ≡ entry_taken section least bytes.now settings }
+    ensures settings { result_unwrap_or result settings ≡ settings_taken section least bytes.now settings }
 {
-    let reply = entry_reply(section, bytes, least);
-    let SetupReply::Read = reply else {
-        return EntryTaken { reply, settings };
-    };
-    let with = with_entry(section, bytes, settings);
-    EntryTaken {
-        reply,
-        settings: with,
+    if bytes.len() < entry_size(section) {
+        return Err(SetupError::WrongLength);
     }
+    if !entry_within(section, bytes) {
+        return Err(SetupError::OutOfRange);
+    }
+    if bytes[0] < least || is_unlisted(section, bytes) {
+        return Err(SetupError::OutOfOrder);
+    }
+    Ok(with_entry(section, bytes, settings))
 }

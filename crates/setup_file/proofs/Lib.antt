@@ -10,3 +10,4 @@ pub mod Seen
 pub mod Leftmost
 pub mod Examples
 pub mod Printable
+pub mod Rest

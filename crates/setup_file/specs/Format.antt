@@ -1,6 +1,7 @@
 -- The setup file of a course: three sections in a fixed order, each after a one-byte count, and the only bytes that say given settings and a label
 -- (document 02, 2026-07). "Setup file" is the papers' own term.
-use Rattle.std.specs.Prelude.{ℕ, zero, suc, ◌*◌, ◌+◌, ◌/◌, ◌%◌, ◌^◌, Bool, true, false, ltb, eqb, length, get_or, set}
+use Rattle.std.specs.Prelude.{ℕ, zero, suc, ◌*◌, ◌+◌, ◌/◌, ◌%◌, ◌^◌, Bool, true, false, ◌&&◌, nat_le, ltb, eqb, length, get_or, set}
+use Rattle.std.specs.List.{list_all}
 use mathlib.Core.List.{List, [], ◌∷◌, ◌++◌, flatten}
 use Rattle.ump.specs.Choice.{when◌then◌else◌}
 use Rattle.mpe_layout.specs.declared.MpeZone.{MpeZone}
@@ -112,8 +113,7 @@ section_of section s = length (entries_of section s) ∷ flatten (entries_of sec
 
 -- a label: at most 32 bytes, each 0x20 to 0x7E
 unfoldable pub printable : List ℕ → Bool
-printable [] = true
-printable (b ∷ label) = when ltb b 0x20 then false else when ltb 0x7E b then false else printable label
+printable label = list_all (λ b. nat_le 0x20 b && nat_le b 0x7E) label
 
 abbrev pub most_label : ℕ
 most_label = 32

@@ -6,7 +6,7 @@ ghost use Rattle.std.specs.Prelude.{◌≡◌, ◌/◌, ◌%◌, ◌^◌};
 ghost use Rattle.setup_file.specs.Format.{most, entry_size, at_rest, printable, label_allowed};
 
 // The sections of a setup file that have entries.
-#[derive(Clone, Copy)]
+#[derive(Clone, Copy, Debug, PartialEq, Eq)]
 pub enum Section {
     Zones,
     Channels,
@@ -33,44 +33,28 @@ pub fn entry_size(section: Section) -> usize
 }
 
 // A channel is at bend 0x2000, pressure 0 and brightness 64.
+#[tactic(auto, using(crate::proofs::Rest::rest_of_bend))]
 pub fn at_rest(bend: u16, pressure: u8, brightness: u8) -> bool
     ensures { result ≡ at_rest (bend / 2 ^ 7) (bend % 2 ^ 7) pressure brightness }
 {
-    if bend != 0x2000 {
-        return false;
-    }
-    if pressure != 0 {
-        return false;
-    }
-    brightness == 64
+    bend == 0x2000 && pressure == 0 && brightness == 64
 }
 
 // The most bytes that a label has.
 pub const MOST_LABEL: usize = 32;
 
 // Each byte is 0x20 to 0x7E.
+#[tactic(auto, unfolding(crate::specs::Format::printable))]
 pub fn is_printable(text: &[u8]) -> bool
     ensures { result ≡ printable text.now }
 {
-    let mut k: usize = 0;
-    while k < text.len() {
-        if text[k] < 0x20 {
-            return false;
-        }
-        if 0x7E < text[k] {
-            return false;
-        }
-        k += 1;
-    }
-    true
+    text.iter().all(|b| matches!(*b, 0x20..=0x7E))
 }
 
 // A label has at most 32 bytes, each 0x20 to 0x7E.
+#[tactic(auto, using(ump::proofs::Auto::auto), unfolding(crate::specs::Format::label_allowed))]
 pub fn label_allowed(label: &[u8]) -> bool
     ensures { result ≡ label_allowed label.now }
 {
-    if 32 < label.len() {
-        return false;
-    }
-    is_printable(label)
+    label.len() <= MOST_LABEL && is_printable(label)
 }

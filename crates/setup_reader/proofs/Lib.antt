@@ -1,5 +1,1 @@
 -- Laws that the reader's proofs cite.
-mod Places
-mod Refusals
-mod Onward
-mod Sections

@@ -1,2 +1,2 @@
--- Definitions that the contracts cite: the reply, and how far a file has been read.
+-- Definitions that the contracts cite: how far a file has been read.
 pub mod Progress

@@ -6,12 +6,12 @@ use mathlib.Core.Bool.{Bool, true, false}
 use mathlib.Core.List.{List, [], ◌∷◌, ◌++◌, flatten, append_assoc}
 use native.Mathlib.Nat.{le_refl}
 use native.Mathlib.Omega.{arith}
-use lib.Dec.{ltb, eqb}
+use lib.Dec.{leb, ltb, eqb}
 use lib.ListN.{length, drop}
-use borrow.Author.Tests.{ltb-false, le-ltb}
+use borrow.Author.Tests.{leb-true, le-ltb}
 use Rattle.ump.specs.Choice.{when◌then◌else◌}
 use Rattle.ump.specs.Outcome.{given, out_of_range}
-use Rattle.ump.proofs.Cases.{by-test}
+use Rattle.ump.proofs.Cases.{by-test, both}
 use Rattle.mpe_layout.specs.Layout.{legal}
 use Rattle.mpe_layout.proofs.Legal.{legal-bounds, bounds-legal}
 use Rattle.settings.specs.declared.Settings.{Settings}
@@ -186,9 +186,9 @@ printable-without : (l : List ℕ) → printable l ≡ true → Without 0x0A l
 unfolding printable
 printable-without [] h = tt
 printable-without (b ∷ l) h =
-    let p = passed (ltb b 0x20) _ h in
-    let q = passed (ltb 0x7E b) _ p.1 in
-    (λ e. omega (arith, ltb-false b 0x20 p.0), printable-without l q.1)
+    let p = both _ _ h in
+    let q = both (leb 0x20 b) (leb b 0x7E) p.0 in
+    (λ e. omega (arith, leb-true 0x20 b q.0), printable-without l p.1)
 
 label-item : (label : List ℕ) → item_read (label_start ++ label) ≡ given (says_label label)
 unfolding item_read same_bytes

@@ -1,6 +1,8 @@
 -- What a text says, or the refusal of its first faulty line, with the number of the line, counted from 1. The numbers are those of the file (document 02,
 -- 2026-07): 1, out of range; 5, an entry or a label out of order, or a channel at rest; and 4 is a line that has not the words of an item.
-use Rattle.std.specs.Prelude.{ℕ, suc, ◌+◌, ◌-◌, ◌*◌, Bool, true, false, List, [], ◌∷◌, ltb, eqb, length, get_or, take, drop}
+use Rattle.std.specs.Prelude.{ℕ, suc, ◌+◌, ◌-◌, ◌*◌, Bool, true, List, [], ◌∷◌, ltb, eqb, nat_eq, length, get_or, take, drop}
+use Rattle.std.specs.List.{slice_split}
+use lib.Pointwise.{pointwise}
 use Rattle.ump.specs.Choice.{when◌then◌else◌}
 use Rattle.ump.specs.Outcome.{Outcome, given, declined, out_of_range, joined}
 use Rattle.mpe_layout.specs.Layout.{legal}
@@ -18,15 +20,9 @@ use Rattle.setup_text.specs.Text.{ascii, line_fields, label_start}
 abbrev pub no_item : {A : Type 0} → Outcome A
 no_item = wrong_length
 
--- one byte more before the first of some parts
-abbrev pub in_first : ℕ → List (List ℕ) → List (List ℕ)
-in_first b [] = (b ∷ []) ∷ []
-in_first b (part ∷ parts) = (b ∷ part) ∷ parts
-
 -- the parts of a text between one such byte and the next
 unfoldable pub parts_at : ℕ → List ℕ → List (List ℕ)
-parts_at stop [] = [] ∷ []
-parts_at stop (b ∷ text) = when eqb b stop then [] ∷ parts_at stop text else in_first b (parts_at stop text)
+parts_at stop text = slice_split (λ b. eqb b stop) text
 
 -- lines, up to LF; the last may lack it, or is empty
 abbrev pub text_lines : List ℕ → List (List ℕ)
@@ -51,10 +47,7 @@ number_read word =
     digits_read 0 word
 
 unfoldable pub same_bytes : List ℕ → List ℕ → Bool
-same_bytes [] [] = true
-same_bytes [] (b ∷ m) = false
-same_bytes (a ∷ l) [] = false
-same_bytes (a ∷ l) (b ∷ m) = when eqb a b then same_bytes l m else false
+same_bytes l m = pointwise nat_eq l m
 
 -- the number that a word says; a word that has to stand as it is says 0
 unfoldable pub field_read : Field → List ℕ → Outcome ℕ

@@ -8,7 +8,7 @@ ghost use Rattle.setup_text.specs.Text.{line_fields};
 use setup_file::Section;
 
 // The words of a line: which zone, which mode, a number, or a word that stands as it is.
-#[derive(Clone, Copy)]
+#[derive(Clone, Copy, Debug, PartialEq, Eq)]
 pub enum Field {
     Zone,
     Mode,
@@ -29,44 +29,17 @@ pub fn field_count(section: Section) -> usize
     }
 }
 
-// Which word stands at a place of a zone's line.
-fn zone_field(k: usize) -> Field
-    ensures { result ≡ get_or (line_fields Section.Zones) k Field.Number }
-{
-    if k == 0 {
-        return Field::Zone;
-    }
-    if k == 6 {
-        return Field::Mode;
-    }
-    Field::Number
-}
-
-// Which word stands at a place of a channel's line.
-fn channel_field(k: usize) -> Field
-    ensures { result ≡ get_or (line_fields Section.Channels) k Field.Number }
-{
-    if k == 0 {
-        return Field::Channel;
-    }
-    if k == 2 {
-        return Field::Bend;
-    }
-    if k == 4 {
-        return Field::Pressure;
-    }
-    if k == 6 {
-        return Field::Brightness;
-    }
-    Field::Number
-}
-
 // Which word stands at a place of a line; behind its last, a number.
 pub fn field_at(section: Section, k: usize) -> Field
     ensures { result ≡ get_or (line_fields section) k Field.Number }
 {
-    match section {
-        Section::Zones => zone_field(k),
-        Section::Channels => channel_field(k),
+    match (section, k) {
+        (Section::Zones, 0) => Field::Zone,
+        (Section::Zones, 6) => Field::Mode,
+        (Section::Channels, 0) => Field::Channel,
+        (Section::Channels, 2) => Field::Bend,
+        (Section::Channels, 4) => Field::Pressure,
+        (Section::Channels, 6) => Field::Brightness,
+        _ => Field::Number,
     }
 }

@@ -1,8 +1,8 @@
 -- Laws that the reader's proofs cite.
-mod Places
-mod Bytes
-mod Words
-mod Items
 mod Capped
 mod Taking
+mod Places
+mod Digits
+mod Words
+mod Items
 mod Reading

@@ -1,63 +1,48 @@
--- The parts of a text from a place on.
+-- The first part of a text.
 -- Assumes nothing.
-use Prim.Native.Nat.{ℕ, suc, ◌+◌, ◌-◌, ◌<◌, ◌≤◌}
+use Prim.Native.Nat.{ℕ, suc, ◌+◌, ◌<◌, ◌≤◌}
 use mathlib.Core.Path.{◌≡◌, ap, ◌∙◌}
 use mathlib.Core.List.{List, [], ◌∷◌, ◌++◌}
-use native.Mathlib.Nat.{le_of_eq}
-use native.Mathlib.Numerals.{add-one}
 use native.Mathlib.Omega.{arith}
-use lib.ListN.{length, get_or, take, drop, length-drop}
-use lib.Seq.{take-suc, split_at, take_all, drop-drop}
-use lib.Dec.{ltb}
-use borrow.Author.Tests.{lt-ltb, le-ltb, ltb-true, ltb-false}
+use lib.ListN.{length, get_or, take, drop}
+use lib.Seq.{split_at, get_or-take, length-take-le}
+use lib.Dec.{eqb}
+use Rattle.std.specs.List.{slice_split, onto_first}
 use Rattle.ump.proofs.Cases.{by-test}
 use Rattle.setup_text.specs.Parse.{parts_at}
-use Rattle.setup_text.proofs.Parts.{Without, without-append, parts-one, parts_more}
-use Rattle.setup_text_reader.specs.Progress.{parts_from}
+use Rattle.setup_text.proofs.Parts.{Without, parts-one, parts_more}
 
-module _ (stop : ℕ) (l : List ℕ) (k : ℕ) where
-  -- one byte more that is another
-  pub without_more : k < length l → (get_or l k 0 ≡ stop → ⊥) → Without stop (take k l) → Without stop (take (k + 1) l)
-  without_more h n w = rw (add-one k, take-suc l k 0 h) (without-append stop (take k l) (get_or l k 0 ∷ []) w (n, tt))
+-- none of some bytes is that one
+without-each : (stop : ℕ) (l : List ℕ) → ((k : ℕ) → k < length l → get_or l k 0 ≡ stop → ⊥) → Without stop l
+without-each stop [] h = tt
+without-each stop (b ∷ l) h = (h 0 (omega arith), without-each stop l (λ k d. h (suc k) (omega arith)))
 
-  -- the first part ends here
-  pub part-found : k < length l → get_or l k 0 ≡ stop → Without stop (take k l) → parts_at stop l ≡ take k l ∷ parts_from stop (k + 1) l
-  part-found h e w =
-      ap (parts_at stop) (split_at l k 0 h ∙ ap (λ b. take k l ++ (b ∷ drop (suc k) l)) e)
-      ∙ parts_more stop (take k l) (drop (suc k) l) w
-      ∙ rw (le-ltb (length l) (k + 1) (omega arith), add-one k)
+-- the first part ends before the first such byte
+pub part-found : (stop : ℕ) (l : List ℕ) (n : ℕ) → n < length l → get_or l n 0 ≡ stop → ((k : ℕ) → k < n → get_or l k 0 ≡ stop → ⊥)
+    → parts_at stop l ≡ take n l ∷ parts_at stop (drop (n + 1) l)
+part-found stop l n h e w =
+    let d = length-take-le n l (omega arith) in
+    let front : Without stop (take n l) = without-each stop (take n l) (λ k b x. w k (omega arith) (rw (get_or-take n l k 0 (omega arith)) at x)) in
+    ap (parts_at stop) (split_at l n 0 h ∙ ap (λ b. take n l ++ (b ∷ drop (suc n) l)) e) ∙ parts_more stop (take n l) (drop (suc n) l) front
+    ∙ ap (λ i. take n l ∷ parts_at stop (drop i l)) (add-one' n)
+  where
+    add-one' : (n : ℕ) → suc n ≡ n + 1
+    add-one' n = omega arith
 
-  -- or nowhere before the end
-  pub part-last : length l ≡ k → Without stop (take k l) → parts_at stop l ≡ take k l ∷ parts_from stop (k + 1) l
-  part-last e w =
-      let all : take k l ≡ l = take_all k l (omega arith) in
-      rw (lt-ltb (length l) (k + 1) (omega arith), all) (parts-one stop l (rw all at w))
+-- or it is the whole text
+pub part-whole : (stop : ℕ) (l : List ℕ) → ((k : ℕ) → k < length l → get_or l k 0 ≡ stop → ⊥) → parts_at stop l ≡ l ∷ []
+part-whole stop l w = parts-one stop l (without-each stop l w)
 
--- the parts behind a part are those of the whole
-behind : (stop : ℕ) (l : List ℕ) (at n : ℕ) → at ≤ length l → parts_from stop n (drop at l) ≡ parts_from stop (at + n) l
-behind stop l at n h =
-    by-test (ltb (length l) (at + n))
-    (λ t.
-    let g : length (drop at l) < n = omega (arith, ltb-true (length l) (at + n) t, length-drop at l) in
-    rw (t, lt-ltb (length (drop at l)) n g))
-    (λ f.
-    let g : n ≤ length (drop at l) = omega (arith, ltb-false (length l) (at + n) f, length-drop at l) in
-    rw (f, le-ltb (length (drop at l)) n g, drop-drop))
-
--- a part from a place on, that is n bytes long
-pub record PartHere (stop : ℕ) (l : List ℕ) (at n : ℕ) : Type 0 where
-  pub inside : at + n ≤ length l
-  pub split : parts_from stop at l ≡ take (at + n - at) (drop at l) ∷ parts_from stop (at + n + 1) l
-
-pub part-here : (stop : ℕ) (l : List ℕ) (at n : ℕ) → at ≤ length l → (let rest = take (length l - at) (drop at l) in
-    (n ≤ length rest) × (parts_at stop rest ≡ take n rest ∷ parts_from stop (n + 1) rest)) → PartHere stop l at n
-part-here stop l at n h p =
-    let all : take (length l - at) (drop at l) ≡ drop at l = take_all (length l - at) (drop at l) (le_of_eq (length-drop at l)) in
-    let q = rw all at p in
-    let z : at + (n + 1) ≡ at + n + 1 = omega arith in
-    let y : at + n - at ≡ n = omega arith in
-    record {
-      inside = omega (arith, q.0, length-drop at l);
-      split = rw (le-ltb (length l) at h, y)
-          (q.1 ∙ ap (λ parts. take n (drop at l) ∷ parts) (behind stop l at (n + 1) h ∙ ap (λ i. parts_from stop i l) z));
-    }
+-- there is at most one part more than bytes
+pub parts-most : (stop : ℕ) (l : List ℕ) → length (parts_at stop l) ≤ length l + 1
+unfolding parts_at
+parts-most stop [] = omega arith
+parts-most stop (b ∷ l) =
+    let h = parts-most stop l in
+    by-test (eqb b stop)
+    (λ t. rw t (omega (arith, h)))
+    (λ f. rw f (onto (slice_split (λ b. eqb b stop) l) (omega (arith, h))))
+  where
+    onto : (parts : List (List ℕ)) → length parts ≤ length l + 1 → length (onto_first b parts) ≤ suc (length l) + 1
+    onto [] d = omega arith
+    onto (p ∷ parts) d = omega arith

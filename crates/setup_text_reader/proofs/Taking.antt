@@ -1,68 +1,53 @@
 -- An entry or a label after what was said so far, by the reply for it.
 -- Assumes nothing.
-use Prim.Native.Nat.{ℕ, suc, ◌+◌, ◌-◌, ◌<◌, ◌≤◌}
-use mathlib.Core.Path.{◌≡◌, sym, ap, ◌∙◌}
+use Prim.Native.Nat.{ℕ, suc, ◌+◌, ◌-◌}
+use mathlib.Core.Path.{◌≡◌, sym, ◌∙◌}
 use mathlib.Core.Bool.{true, false}
 use mathlib.Core.List.{List}
 use native.Mathlib.Numerals.{add-one}
-use borrow.Author.Tests.{lt-ltb, le-ltb}
 use Rattle.ump.specs.Outcome.{given, out_of_range}
 use Rattle.mpe_layout.specs.Layout.{legal}
 use Rattle.settings.specs.declared.Settings.{Settings}
 use Rattle.setup_file.specs.declared.Section.{Section}
-use Rattle.setup_file.specs.Format.{number_in, label_allowed, settings_with}
-use Rattle.setup_file.specs.Read.{out_of_order, and_then, entry_read}
-use Rattle.setup_file.proofs.Taken.{read_taken}
-use Rattle.setup_entry.specs.declared.SetupReply.{SetupReply}
-use Rattle.setup_entry.specs.declared.SetupReply.TheVariants as setup_reply
-use Rattle.setup_entry.specs.Entry.{setup_read, settings_taken}
-use Rattle.setup_entry.proofs.Replies.{Refusal, refused, read-given}
-use Rattle.setup_entry.proofs.Onward.{settings-with}
-use Rattle.setup_text.specs.Parse.{SoFar, so_far, first_place, label_place, pair_tested, entry_taken, label_taken, entry_from}
+use Rattle.setup_file.specs.Format.{number_in, settings_with}
+use Rattle.setup_file.specs.Read.{entry_read}
+use Rattle.setup_file.proofs.Taken.{taken-read, read_taken}
+use Rattle.setup_entry.specs.declared.SetupError.{SetupError}
+use Rattle.setup_entry.specs.Entry.{refused_by, entry_taken as taken_entry}
+use Rattle.setup_entry.proofs.Onward.{entry-taken, settings-with, refused-alike}
+use Rattle.setup_text.specs.Parse.{SoFar, so_far, first_place, pair_tested, entry_taken, entry_from}
 use Rattle.setup_text_reader.specs.Progress.{entry_bytes}
 use Rattle.setup_text_reader.proofs.Capped.{capped-read, capped-with}
 
-module _ (section : Section) (numbers : List ℕ) (so : SoFar) (r : SetupReply)
-    (h : setup_read r (number_in (entry_bytes section numbers)) ≡ entry_read section (so.least - first_place section) (entry_bytes section numbers)) where
-  pub numbers-refused : Refusal r → (q : SoFar) → setup_read r q ≡ entry_taken section (entry_from section numbers) so
+module _ (section : Section) (numbers : List ℕ) (so : SoFar) where
+  -- an entry that is refused
+  pub numbers-refused : (q : SetupError) → refused_by q ≡ taken_entry section (so.least - first_place section) (entry_bytes section numbers) so.settings
+      → refused_by q ≡ entry_taken section (entry_from section numbers) so
   unfolding entry_taken
-  numbers-refused t q =
-      refused r t (number_in (entry_bytes section numbers)) q
-      (λ number. pair_tested (settings_with section (entry_from section numbers) so.settings) so.label (suc (first_place section + number)))
-      ∙ ap (λ o. and_then o (λ number. pair_tested (settings_with section (entry_from section numbers) so.settings) so.label (suc (first_place section + number))))
-      (h ∙ capped-read section (so.least - first_place section) numbers)
+  numbers-refused q e =
+      rw (← capped-read section (so.least - first_place section) numbers)
+      (refused-alike q (entry_read section (so.least - first_place section) (entry_bytes section numbers))
+      (λ n. settings_with section (entry_bytes section numbers) so.settings)
+      (λ number. pair_tested (settings_with section (entry_from section numbers) so.settings) so.label (suc (first_place section + number))) e)
 
-  module _ (k : r ≡ setup_reply.Read) where
+  -- or taken
+  module _ (s : Settings) (e : given s ≡ taken_entry section (so.least - first_place section) (entry_bytes section numbers) so.settings) where
     number_is : entry_read section (so.least - first_place section) (entry_from section numbers) ≡ given (number_in (entry_bytes section numbers))
-    number_is = sym (read-given r (number_in (entry_bytes section numbers)) k h ∙ capped-read section (so.least - first_place section) numbers)
+    number_is =
+        sym (capped-read section (so.least - first_place section) numbers)
+        ∙ taken-read section (so.least - first_place section) (entry_bytes section numbers)
+        (entry-taken section (so.least - first_place section) (entry_bytes section numbers) so.settings s e)
 
-    settings-are : settings_taken section (so.least - first_place section) (entry_bytes section numbers) so.settings
-        ≡ settings_with section (entry_from section numbers) so.settings
+    settings-are : settings_with section (entry_from section numbers) so.settings ≡ s
     settings-are =
-        sym (settings-with section (so.least - first_place section) (entry_bytes section numbers) r h so.settings k)
-        ∙ capped-with section numbers (read_taken section (so.least - first_place section) (entry_from section numbers) number_is).0.within so.settings
+        sym (capped-with section numbers (read_taken section (so.least - first_place section) (entry_from section numbers) number_is).0.within so.settings)
+        ∙ settings-with section (so.least - first_place section) (entry_bytes section numbers) so.settings s e
 
-    pub pair-refused : (s : Settings) → s ≡ settings_taken section (so.least - first_place section) (entry_bytes section numbers) so.settings
-        → legal s.layout ≡ false → out_of_range ≡ entry_taken section (entry_from section numbers) so
+    pub pair-refused : legal s.layout ≡ false → out_of_range ≡ entry_taken section (entry_from section numbers) so
     unfolding entry_taken
-    pair-refused s e l = rw (number_is, ← settings-are, ← e, l)
+    pair-refused l = rw (number_is, settings-are, l)
 
-    pub numbers-taken : (s : Settings) → s ≡ settings_taken section (so.least - first_place section) (entry_bytes section numbers) so.settings
-        → legal s.layout ≡ true
-        → setup_read r (so_far s so.label (first_place section + number_in (entry_bytes section numbers) + 1)) ≡ entry_taken section (entry_from section numbers) so
+    pub numbers-taken : legal s.layout ≡ true
+        → given (so_far s so.label (first_place section + number_in (entry_bytes section numbers) + 1)) ≡ entry_taken section (entry_from section numbers) so
     unfolding entry_taken
-    numbers-taken s e l = rw (k, number_is, ← settings-are, ← e, l, add-one)
-
-module _ (label : List ℕ) (r : SoFar) where
-  pub label-outside : label_allowed label ≡ false → out_of_range ≡ label_taken label r
-  unfolding label_taken
-  label-outside a = rw a
-
-  module _ (a : label_allowed label ≡ true) where
-    pub label-early : label_place < r.least → out_of_order ≡ label_taken label r
-    unfolding label_taken
-    label-early p = rw (a, lt-ltb label_place r.least p)
-
-    pub label-taken : r.least ≤ label_place → given (so_far r.settings label 19) ≡ label_taken label r
-    unfolding label_taken
-    label-taken p = rw (a, le-ltb label_place r.least p)
+    numbers-taken l = rw (number_is, settings-are, l, add-one)

@@ -1,158 +1,106 @@
 // The reader of the text form of a setup file (document 02, 2026-07): the settings and the label that a text says, or its first faulty line.
 #![tactic(auto)]
 
-ghost use Rattle.std.specs.Prelude.{◌≡◌, List, ◌∷◌, ℕ, ◌+◌, ◌-◌, ◌<◌, ◌≤◌, length, take, drop};
+ghost use Rattle.std.specs.Prelude.{◌≡◌, ◌≢◌, ◌∷◌, ℕ, ◌+◌, ◌<◌, length, slice_index, EachIndex, MatchOption};
+ghost use Rattle.std.specs.Result.{result_unwrap_or};
 ghost use Rattle.ump.specs.Choice.{when◌then◌else◌};
 ghost use Rattle.ump.specs.Outcome.{given};
+ghost use Rattle.settings.specs.Settings.{new_settings};
 ghost use Rattle.setup_file.specs.Read.{settings_in, settings_or_new, label_in};
-ghost use Rattle.setup_entry.specs.Entry.{setup_read};
-ghost use Rattle.setup_entry.specs.declared.SetupReply.TheVariants.{Read};
 ghost use Rattle.setup_text.specs.Text.{line_fields, label_start};
-ghost use Rattle.setup_text.specs.Parse.{parts_at, line_words, number_read, same_bytes, field_read, fields_read, entry_from, silent, no_item, entry_line_read, or_else, item_read, first_place, entry_taken, label_taken, line_taken, on_line, text_read, line_in};
+ghost use Rattle.setup_text.specs.Parse.{parts_at, line_words, number_read, same_bytes, field_read, fields_read, entry_from, silent, no_item, entry_line_read, or_else, item_read, first_place, entry_taken, label_taken, line_taken, text_read, line_in};
 ghost use Rattle.setup_text.specs.Claims.{TextForm, FirstFault};
 ghost use Rattle.setup_text.specs.Examples.{TextsAsTabled};
-ghost use Rattle.setup_text_reader.specs.Progress.{parts_from, said_read, numbers_found, item_found, byte_for, entry_bytes, said_so_far, read_so_far, whole_read};
+ghost use Rattle.setup_text_reader.specs.Progress.{parts_left, said_read, numbers_found, item_found, byte_for, entry_bytes, said_so_far, read_so_far, whole_read, text_answered, fault_line};
 
 use settings::Settings;
-use setup_entry::{SetupReply, take_entry};
+use setup_entry::{SetupError, take_entry};
 use setup_file::{Section, label_allowed};
 use setup_text::{Field, field_at, field_count};
 
-// The reply, the faulty line, counted from 1, and the settings of the text. A text that is read has line 0, and one that is refused has new settings.
-#[derive(Clone, Copy)]
-pub struct TextRead {
-    pub reply: SetupReply,
+// Why a text is refused: its first faulty line, counted from 1, and what is wrong there.
+#[derive(Clone, Copy, Debug, PartialEq, Eq)]
+pub struct TextError {
     pub line: usize,
-    pub settings: Settings,
+    pub refusal: SetupError,
 }
 
-// The number that a word says, if it says one.
+// The item of a line: nothing, an entry by its section and its numbers, or a label.
 #[derive(Clone, Copy)]
-enum Said {
-    Value(u32),
+enum Item<'a> {
     Nothing,
+    Entry(Section, [u32; 8]),
+    Label(&'a [u8]),
 }
 
-// The numbers that the words of a line say, if it has the form of a section.
+// How far a text has been read: what it said so far, and the least place that the next item may have.
 #[derive(Clone, Copy)]
-struct LineNumbers {
-    found: bool,
-    numbers: [u32; 8],
-}
-
-// What a line is: one that says nothing, the line of an entry, the line of a label, or no item.
-#[derive(Clone, Copy)]
-enum ItemKind {
-    Silent,
-    Entry,
-    Label,
-    NoItem,
-}
-
-// The item of a line; of an entry its section and its numbers.
-#[derive(Clone, Copy)]
-struct LineItem {
-    kind: ItemKind,
-    section: Section,
-    numbers: [u32; 8],
-}
-
-// How far a text has been read: what it said so far, or why the line is refused; the least place that the next item may have; where the label starts
-// and ends; and how many lines were read.
-#[derive(Clone, Copy)]
-struct Progress {
-    reply: SetupReply,
+struct Progress<'a> {
     settings: Settings,
+    label: &'a [u8],
     least: u8,
-    start: usize,
-    end: usize,
-    line: usize,
 }
 
-// Where the first part of a text ends, between one such byte and the next.
-fn part_end(text: &[u8], stop: u8) -> usize
-    ensures inside { result ≤ length text.now }
-    ensures part { parts_at stop text.now ≡ take result text.now ∷ parts_from stop (result + 1) text.now }
+// Where the first such byte of a text stands.
+fn part_end(text: &[u8], stop: u8) -> Option<usize>
+    ensures { MatchOption result (EachIndex text.now (λ k. slice_index text.now k ≢ stop)) (λ i. (i < length text.now) × (slice_index text.now i ≡ stop) × ((k : ℕ) → k < i → slice_index text.now k ≢ stop)) }
 {
-    let mut k: usize = 0;
-    while k < text.len() {
-        if text[k] == stop {
-            return k;
-        }
-        k += 1;
+    text.iter().position(|b| *b == stop)
+}
+
+// The first part of a text, between one such byte and the next, and what follows that byte, if there is one.
+fn first_part(text: &[u8], stop: u8) -> (&[u8], Option<&[u8]>)
+    ensures { parts_at stop text.now ≡ result.0.now ∷ parts_left stop result.1 }
+{
+    match part_end(text, stop) {
+        Some(end) => (&text[..end], Some(&text[end + 1..])),
+        None => (text, None),
     }
-    k
 }
 
 // The number that 1 to 5 decimal digits say.
-fn number_said(word: &[u8]) -> Said
+fn number_said(word: &[u8]) -> Option<u32>
     ensures { said_read result ≡ number_read word.now }
 {
-    if word.len() == 0 {
-        return Said::Nothing;
-    }
-    if 5 < word.len() {
-        return Said::Nothing;
+    if word.is_empty() || 5 < word.len() {
+        return None;
     }
     let mut value: u32 = 0;
-    let mut k: usize = 0;
-    while k < word.len() {
-        let digit = word[k];
-        if digit < 0x30 {
-            return Said::Nothing;
+    for digit in word {
+        match *digit {
+            b'0'..=b'9' => value = 10 * value + (*digit - b'0') as u32,
+            _ => return None,
         }
-        if 0x39 < digit {
-            return Said::Nothing;
-        }
-        value = 10 * value + (digit - 0x30) as u32;
-        k += 1;
     }
-    Said::Value(value)
-}
-
-// Two texts have the same bytes.
-fn same_bytes(text: &[u8], other: &[u8]) -> bool
-    ensures { result ≡ same_bytes text.now other.now }
-{
-    if text.len() != other.len() {
-        return false;
-    }
-    let mut k: usize = 0;
-    while k < text.len() {
-        if text[k] != other[k] {
-            return false;
-        }
-        k += 1;
-    }
-    true
+    Some(value)
 }
 
 // The number that one of two words says.
-fn either_said(word: &[u8], first: &[u8], second: &[u8], number: u32) -> Said
+#[tactic(auto, unfolding(setup_text::specs::Parse::same_bytes))]
+fn either_said(word: &[u8], first: &[u8], second: &[u8], number: u32) -> Option<u32>
     requires { number < 4 }
     ensures { said_read result ≡ (when same_bytes word.now first.now then given number else when same_bytes word.now second.now then given (number + 1) else no_item) }
 {
-    if same_bytes(word, first) {
-        return Said::Value(number);
+    if word == first {
+        Some(number)
+    } else if word == second {
+        Some(number + 1)
+    } else {
+        None
     }
-    if same_bytes(word, second) {
-        return Said::Value(number + 1);
-    }
-    Said::Nothing
 }
 
 // A word that has to stand as it is says 0.
-fn word_said(word: &[u8], expected: &[u8]) -> Said
+#[tactic(auto, unfolding(setup_text::specs::Parse::same_bytes))]
+fn word_said(word: &[u8], expected: &[u8]) -> Option<u32>
     ensures { said_read result ≡ (when same_bytes word.now expected.now then given 0 else no_item) }
 {
-    if same_bytes(word, expected) {
-        return Said::Value(0);
-    }
-    Said::Nothing
+    (word == expected).then_some(0)
 }
 
 // The number that a word of a line says.
-fn field_said(field: Field, word: &[u8]) -> Said
+#[tactic(auto, unfolding(setup_text::specs::Parse::field_read))]
+fn field_said(field: Field, word: &[u8]) -> Option<u32>
     ensures { said_read result ≡ field_read field word.now }
 {
     match field {
@@ -166,36 +114,20 @@ fn field_said(field: Field, word: &[u8]) -> Said
     }
 }
 
-// The numbers that the words of a line say in the form of a section.
-fn line_numbers(section: Section, line: &[u8]) -> LineNumbers
+// The numbers that the words of a line say, if it has the form of a section.
+fn line_numbers(section: Section, line: &[u8]) -> Option<[u32; 8]>
     ensures { numbers_found section result ≡ fields_read (line_fields section) (line_words line.now) }
 {
-    let count = field_count(section);
-    let mut numbers: [u32; 8] = [0; 8];
-    let mut at: usize = 0;
-    let mut k: usize = 0;
-    while k < count {
-        if line.len() < at {
-            return LineNumbers {
-                found: false,
-                numbers,
-            };
-        }
-        let end = at + part_end(&line[at..], b' ');
-        let said = field_said(field_at(section, k), &line[at..end]);
-        let Said::Value(n) = said else {
-            return LineNumbers {
-                found: false,
-                numbers,
-            };
-        };
-        numbers[k] = n;
-        at = end + 1;
-        k += 1;
+    let mut numbers = [0; 8];
+    let mut rest = Some(line);
+    for k in 0..field_count(section) {
+        let (word, more) = first_part(rest?, b' ');
+        numbers[k] = field_said(field_at(section, k), word)?;
+        rest = more;
     }
-    LineNumbers {
-        found: line.len() < at,
-        numbers,
+    match rest {
+        None => Some(numbers),
+        Some(_) => None,
     }
 }
 
@@ -203,81 +135,44 @@ fn line_numbers(section: Section, line: &[u8]) -> LineNumbers
 fn is_silent(line: &[u8]) -> bool
     ensures { result ≡ silent line.now }
 {
-    if line.len() == 0 {
-        return true;
+    match line {
+        [] => true,
+        [first, ..] => *first == b'#',
     }
-    line[0] == b'#'
-}
-
-// A line begins with "label ".
-fn is_label(line: &[u8]) -> bool
-    ensures { result ≡ same_bytes (take 6 line.now) label_start }
-{
-    if line.len() < 6 {
-        return false;
-    }
-    same_bytes(&line[..6], b"label ")
 }
 
 // The item of a line that has the form of a section.
-fn entry_item(line: &[u8]) -> LineItem
-    ensures { item_found result line.now ≡ or_else (entry_line_read Section.Zones line.now) (entry_line_read Section.Channels line.now) }
+fn entry_item<'a>(line: &'a [u8]) -> Result<Item<'a>, SetupError>
+    ensures { item_found result ≡ or_else (entry_line_read Section.Zones line.now) (entry_line_read Section.Channels line.now) }
 {
-    let zone = line_numbers(Section::Zones, line);
-    let numbers = zone.numbers;
-    if zone.found {
-        return LineItem {
-            kind: ItemKind::Entry,
-            section: Section::Zones,
-            numbers,
-        };
+    if let Some(numbers) = line_numbers(Section::Zones, line) {
+        return Ok(Item::Entry(Section::Zones, numbers));
     }
-    let channel = line_numbers(Section::Channels, line);
-    let others = channel.numbers;
-    if channel.found {
-        return LineItem {
-            kind: ItemKind::Entry,
-            section: Section::Channels,
-            numbers: others,
-        };
-    }
-    LineItem {
-        kind: ItemKind::NoItem,
-        section: Section::Channels,
-        numbers: others,
+    match line_numbers(Section::Channels, line) {
+        Some(numbers) => Ok(Item::Entry(Section::Channels, numbers)),
+        None => Err(SetupError::WrongLength),
     }
 }
 
 // The item of a line.
-fn line_item(line: &[u8]) -> LineItem
-    ensures item { item_found result line.now ≡ item_read line.now }
+#[tactic(auto, unfolding(setup_text::specs::Parse::item_read, setup_text::specs::Parse::same_bytes))]
+fn line_item<'a>(line: &'a [u8]) -> Result<Item<'a>, SetupError>
+    ensures { item_found result ≡ item_read line.now }
 {
-    let numbers: [u32; 8] = [0; 8];
     if is_silent(line) {
-        return LineItem {
-            kind: ItemKind::Silent,
-            section: Section::Zones,
-            numbers,
-        };
+        return Ok(Item::Nothing);
     }
-    if is_label(line) {
-        return LineItem {
-            kind: ItemKind::Label,
-            section: Section::Zones,
-            numbers,
-        };
+    match line.strip_prefix(b"label ") {
+        Some(label) => Ok(Item::Label(label)),
+        None => entry_item(line),
     }
-    entry_item(line)
 }
 
 // A number as a byte. One above 255 is 255, which is outside every limit.
 fn byte_for(n: u32) -> u8
     ensures { result ≡ byte_for n }
 {
-    if n < 255 {
-        return n as u8;
-    }
-    255
+    u8::try_from(n).unwrap_or(255)
 }
 
 // The bytes of the entry that the numbers of a line say; of a channel's the last two are 0.
@@ -316,169 +211,106 @@ fn first_place(section: Section) -> u8
     }
 }
 
-// The least number that the next entry of a section may have.
-fn least_number(section: Section, least: u8) -> u8
-    ensures { result ≡ least - first_place section }
-{
-    let first = first_place(section);
-    if least < first {
-        return 0;
-    }
-    least - first
-}
-
-// What a text said so far, refused at the line that was read last.
-fn refused(from: Progress, reply: SetupReply) -> Progress
-    ensures { result ≡ record { reply = reply; settings = from.settings; least = from.least; start = from.start; end = from.end; line = from.line } }
-{
-    let settings = from.settings;
-    Progress {
-        reply,
-        settings,
-        least: from.least,
-        start: from.start,
-        end: from.end,
-        line: from.line,
-    }
-}
-
 // An entry, by the numbers of its line, after what was said so far.
-fn take_numbers(section: Section, numbers: [u32; 8], from: Progress) -> Progress
-    ensures reading { (text : List ℕ) → read_so_far result text ≡ entry_taken section (entry_from section numbers) (said_so_far from text) }
-    ensures label { (result.start ≡ from.start) × (result.end ≡ from.end) }
-    ensures line { result.line ≡ from.line }
+fn take_numbers<'a>(
+    section: Section,
+    numbers: [u32; 8],
+    from: Progress<'a>,
+) -> Result<Progress<'a>, SetupError>
+    ensures { read_so_far result ≡ entry_taken section (entry_from section numbers) (said_so_far from.entry) }
 {
     let entry = entry_bytes(section, numbers);
-    let least = least_number(section, from.least);
-    let taken = take_entry(section, &entry, least, from.settings);
-    let reply = taken.reply;
-    let SetupReply::Read = reply else {
-        return refused(from, reply);
-    };
-    let settings = taken.settings;
-    let layout = settings.layout;
-    if !layout.is_layout() {
-        return refused(from, SetupReply::OutOfRange);
+    let first = first_place(section);
+    let least = from.least.saturating_sub(first);
+    let settings = take_entry(section, &entry, least, from.settings)?;
+    if !settings.layout.is_layout() {
+        return Err(SetupError::OutOfRange);
     }
-    Progress {
-        reply,
+    Ok(Progress {
         settings,
-        least: first_place(section) + entry[0] + 1,
-        start: from.start,
-        end: from.end,
-        line: from.line,
-    }
+        label: from.label,
+        least: first + entry[0] + 1,
+    })
 }
 
-// A label after what was said so far: the part of the text from `start` to `end`.
-fn take_label(text: &[u8], start: usize, end: usize, from: Progress) -> Progress
-    requires { (start ≤ end) × (end ≤ length text.now) × (from.start ≤ from.end) × (from.end ≤ length text.now) }
-    ensures reading { read_so_far result text.now ≡ label_taken (take (end - start) (drop start text.now)) (said_so_far from text.now) }
-    ensures inside { (result.start ≤ result.end) × (result.end ≤ length text.now) }
-    ensures line { result.line ≡ from.line }
+// A label after what was said so far.
+#[tactic(auto, using(ump::proofs::Auto::auto), unfolding(setup_text::specs::Parse::label_taken))]
+fn take_label<'a>(label: &'a [u8], from: Progress<'a>) -> Result<Progress<'a>, SetupError>
+    ensures { read_so_far result ≡ label_taken label.now (said_so_far from.entry) }
 {
-    if !label_allowed(&text[start..end]) {
-        return refused(from, SetupReply::OutOfRange);
+    if !label_allowed(label) {
+        return Err(SetupError::OutOfRange);
     }
     if 18 < from.least {
-        return refused(from, SetupReply::OutOfOrder);
+        return Err(SetupError::OutOfOrder);
     }
-    let settings = from.settings;
-    Progress {
-        reply: SetupReply::Read,
-        settings,
+    Ok(Progress {
+        settings: from.settings,
+        label,
         least: 19,
-        start,
-        end,
-        line: from.line,
-    }
+    })
 }
 
-// The line from `at` to `end`, after what was said so far.
-fn read_line(text: &[u8], at: usize, end: usize, from: Progress) -> Progress
-    requires { (at ≤ end) × (end ≤ length text.now) × (from.start ≤ from.end) × (from.end ≤ length text.now) × (from.reply ≡ Read) }
-    ensures reading { read_so_far result text.now ≡ line_taken (said_so_far from text.now) (take (end - at) (drop at text.now)) }
-    ensures inside { (result.start ≤ result.end) × (result.end ≤ length text.now) }
-    ensures line { result.line ≡ from.line }
+// A line, after what was said so far.
+fn read_line<'a>(line: &'a [u8], from: Progress<'a>) -> Result<Progress<'a>, SetupError>
+    ensures { read_so_far result ≡ line_taken (said_so_far from.entry) line.now }
 {
-    let item = line_item(&text[at..end]);
-    let kind = item.kind;
-    match kind {
-        ItemKind::Silent => from,
-        ItemKind::Entry => {
-            let section = item.section;
-            let numbers = item.numbers;
-            take_numbers(section, numbers, from)
-        }
-        ItemKind::Label => take_label(text, at + 6, end, from),
-        ItemKind::NoItem => refused(from, SetupReply::WrongLength),
+    match line_item(line)? {
+        Item::Nothing => Ok(from),
+        Item::Entry(section, numbers) => take_numbers(section, numbers, from),
+        Item::Label(label) => take_label(label, from),
     }
 }
 
 // The whole text, line by line.
-fn read_text(text: &[u8]) -> Progress
-    ensures reading { whole_read result text.now ≡ text_read text.now }
-    ensures inside { (result.start ≤ result.end) × (result.end ≤ length text.now) }
+fn read_text<'a>(text: &'a [u8]) -> Result<Progress<'a>, TextError>
+    ensures { whole_read result ≡ text_read text.now }
 {
     let mut progress = Progress {
-        reply: SetupReply::Read,
         settings: Settings::new(),
+        label: &text[..0],
         least: 0,
-        start: 0,
-        end: 0,
-        line: 0,
     };
-    let mut at: usize = 0;
-    while at <= text.len() {
-        let end = at + part_end(&text[at..], b'\n');
-        progress.line += 1;
-        progress = read_line(text, at, end, progress);
-        let reply = progress.reply;
-        let SetupReply::Read = reply else {
-            return progress;
+    let mut number: usize = 0;
+    let mut rest = Some(text);
+    while let Some(left) = rest {
+        let (line, more) = first_part(left, b'\n');
+        number += 1;
+        progress = match read_line(line, progress) {
+            Ok(next) => next,
+            Err(refusal) => {
+                return Err(TextError {
+                    line: number,
+                    refusal,
+                });
+            }
         };
-        at = end + 1;
+        rest = more;
     }
-    progress
+    Ok(progress)
 }
 
-// The settings that a text says, or its first faulty line and why it is refused. What the other clauses say is of all texts: the text of a file says what
-// the file says, and the file of a text what the text says (`form`); the line that is named is the first at fault (`fault`); `examples` has some texts.
-pub fn text_settings(text: &[u8]) -> TextRead
-    ensures reply { on_line result.line (setup_read result.reply result.settings) ≡ settings_in (text_read text.now) }
-    ensures line { result.line ≡ line_in (text_read text.now) }
-    ensures settings { result.settings ≡ settings_or_new (text_read text.now) }
+// The settings that a text says, or its first faulty line and why it is refused; of a text that is refused, `settings` has new settings, and of one that is
+// read, `line` has line 0. What the other clauses say is of all texts: the text of a file says what the file says, and the file of a text what the text says
+// (`form`); the line that is named is the first at fault (`fault`); `examples` has some texts.
+pub fn text_settings(text: &[u8]) -> Result<Settings, TextError>
+    ensures reply { text_answered result ≡ settings_in (text_read text.now) }
+    ensures line { fault_line result ≡ line_in (text_read text.now) }
+    ensures settings { result_unwrap_or result new_settings ≡ settings_or_new (text_read text.now) }
     ensures form { TextForm }
     ensures fault { FirstFault }
     ensures examples { TextsAsTabled }
 {
-    let read = read_text(text);
-    let reply = read.reply;
-    let SetupReply::Read = reply else {
-        return TextRead {
-            reply,
-            line: read.line,
-            settings: Settings::new(),
-        };
-    };
-    let settings = read.settings;
-    TextRead {
-        reply,
-        line: 0,
-        settings,
-    }
+    let read = read_text(text)?;
+    Ok(read.settings)
 }
 
 // The label that a text says, as the part of the text that holds it, and an empty part where there is none or the text is refused.
 pub fn text_label(text: &[u8]) -> &[u8]
     ensures { result.now ≡ label_in (text_read text.now) }
 {
-    let read = read_text(text);
-    let reply = read.reply;
-    let SetupReply::Read = reply else {
-        return &text[..0];
-    };
-    let start = read.start;
-    let end = read.end;
-    &text[start..end]
+    match read_text(text) {
+        Ok(read) => read.label,
+        Err(_) => &text[..0],
+    }
 }

@@ -1,53 +1,68 @@
 -- `setup_text_reader::line_numbers` meets its contract: the numbers so far and those that the words left say are those of the line.
-use Prim.Native.Nat.{◌+◌, ◌-◌}
+use Prim.Native.Nat.{◌<◌, ◌≤◌}
 use mathlib.Core.Path.{◌≡◌, sym, ap, ◌∙◌}
 use native.Mathlib.Omega.{arith}
 use lib.ListN.{length, get_or, take, drop, length-set}
-use Rattle.ump.specs.Outcome.{given}
 use Rattle.setup_text.specs.declared.Field.TheVariants as field
 use Rattle.setup_text.specs.Text.{line_fields}
 use Rattle.setup_text.specs.Parse.{no_item, field_read}
-use Rattle.setup_text_reader.specs.Progress.{said_read}
 use Rattle.setup_text.proofs.Limits.{fields-most}
-use Rattle.setup_text_reader.proofs.Places.{part-here}
-use Rattle.setup_text_reader.proofs.Words.{numbers-short, numbers-other, numbers_more, numbers-end, taken_more}
+use Rattle.setup_text_reader.specs.Progress.{parts_left}
+use Rattle.setup_text_reader.proofs.Words.{numbers_on, numbers-short, numbers-other, numbers_more, numbers-end, numbers-over, taken_more}
 use Rattle.setup_text_reader.proofs.line_numbers.Goals as goal
 
-pub returns-then-line-at : goal.returns-then-line-at
-returns-then-line-at c = let i = c.loop-k in
-    let a = c.args in
-    sym (numbers-short (take i.k i.numbers) (line_fields a.section) i.k i.at a.line.now (omega (arith, i.invariant.1)) c.if-line-at.true) ∙ i.invariant.4
-
-pub returns-in_default : goal.returns-in_default
-returns-in_default c = let i = c.loop-k in
-    let l = c.args.line.now in
-    let n = c.part_end.result in
-    let p = part-here 0x20 l i.at n c.if-line-at.false (c.part_end.ensures.inside, c.part_end.ensures.part) in
+pub returns-in_err-rest : goal.returns-in_err-rest
+returns-in_err-rest c = let i = c.loop-k in
     let fields = line_fields c.args.section in
-    let q : field_read (get_or fields i.k field.Number) (take (i.at + n - i.at) (drop i.at l)) ≡ no_item =
-    sym (ap said_read (sym c.in_default.is) ∙ c.field_said-said.ensures ∙ ap (λ g. field_read g (take (i.at + n - i.at) (drop i.at l))) c.field_at.ensures) in
-    sym (numbers-other (take i.k i.numbers) fields i.k i.at l (omega (arith, i.invariant.1)) _ (i.at + n + 1) p.split q) ∙ i.invariant.4
+    let h : i.k < length fields = omega (arith, i.invariant.0) in
+    rw c.from_residual.ensures
+    (sym (numbers-short (take i.k i.numbers) fields i.k h)
+    ∙ ap (λ r. numbers_on (take i.k i.numbers) (drop i.k fields) (parts_left 0x20 r)) (sym c.in_err-rest.was)
+    ∙ i.invariant.2)
+
+pub returns-in_err-numbers : goal.returns-in_err-numbers
+returns-in_err-numbers c = let i = c.loop-k in
+    let fields = line_fields c.args.section in
+    let h : i.k < length fields = omega (arith, i.invariant.0) in
+    let word = c.first_part.result.0.now in
+    let words = parts_left 0x20 c.first_part.result.1 in
+    let q : field_read (get_or fields i.k field.Number) word ≡ no_item = sym (c.in_err-numbers.ensures ∙ ap (λ g. field_read g word) c.field_at.ensures) in
+    rw c.from_residual-in_err-numbers.ensures
+    (sym (numbers-other (take i.k i.numbers) fields i.k h word words q)
+    ∙ ap (λ w. numbers_on (take i.k i.numbers) (drop i.k fields) w) (sym c.first_part.ensures)
+    ∙ ap (λ r. numbers_on (take i.k i.numbers) (drop i.k fields) (parts_left 0x20 r)) (sym c.in_ok-rest.was)
+    ∙ i.invariant.2)
 
 pub loop-k-preserved : goal.loop-k-preserved
 loop-k-preserved c = let i = c.loop-k in
-    let l = c.args.line.now in
-    let n = c.part_end.result in
-    let p = part-here 0x20 l i.at n c.if-line-at.false (c.part_end.ensures.inside, c.part_end.ensures.part) in
     let fields = line_fields c.args.section in
-    let v = c.in-Value.n in
-    let q : field_read (get_or fields i.k field.Number) (take (i.at + n - i.at) (drop i.at l)) ≡ given v =
-    sym (ap said_read (sym c.in-Value.is) ∙ c.field_said-said.ensures ∙ ap (λ g. field_read g (take (i.at + n - i.at) (drop i.at l))) c.field_at.ensures) in (
-      omega arith,
-      i.invariant.1,
-      length-set i.numbers i.k v ∙ i.invariant.2,
-      omega (arith, p.inside),
-      rw (taken_more i.numbers i.k v (omega (arith, i.invariant.1, i.invariant.2, fields-most c.args.section)))
-          (sym (numbers_more (take i.k i.numbers) fields i.k i.at l (omega (arith, i.invariant.1)) _ (i.at + n + 1) p.split v q) ∙ i.invariant.4),
+    let h : i.k < length fields = omega (arith, i.invariant.0) in
+    let v = c.in_ok-numbers.field-0 in
+    let word = c.first_part.result.0.now in
+    let words = parts_left 0x20 c.first_part.result.1 in
+    let q = sym (c.in_ok-numbers.ensures ∙ ap (λ g. field_read g word) c.field_at.ensures) in (
+      i.invariant.0,
+      length-set i.numbers i.k v ∙ i.invariant.1,
+      rw (taken_more i.numbers i.k v (omega (arith, i.invariant.0, i.invariant.1, fields-most c.args.section)))
+          (sym (numbers_more (take i.k i.numbers) fields i.k h word words v q)
+          ∙ ap (λ w. numbers_on (take i.k i.numbers) (drop i.k fields) w) (sym c.first_part.ensures)
+          ∙ ap (λ r. numbers_on (take i.k i.numbers) (drop i.k fields) (parts_left 0x20 r)) (sym c.in_ok-rest.was)
+          ∙ i.invariant.2),
     )
 
-pub returns : goal.returns
-returns c = let i = c.loop-k in
-    let a = c.args in
-    let fields = line_fields a.section in
-    let k : length fields ≡ i.k = omega (arith, i.invariant.1) in
-    rw k (sym (numbers-end (take i.k i.numbers) fields i.k i.at a.line.now (omega arith)) ∙ i.invariant.4)
+pub returns-in-None : goal.returns-in-None
+returns-in-None c = let i = c.loop-k in
+    let fields = line_fields c.args.section in
+    let k : length fields ≡ i.k = omega (arith, i.invariant.0) in
+    rw k
+    (sym (numbers-end (take i.k i.numbers) fields i.k (omega arith))
+    ∙ ap (λ r. numbers_on (take i.k i.numbers) (drop i.k fields) (parts_left 0x20 r)) (sym c.in-None.is)
+    ∙ i.invariant.2)
+
+pub returns-in-Some : goal.returns-in-Some
+returns-in-Some c = let i = c.loop-k in
+    let fields = line_fields c.args.section in
+    let k : length fields ≤ i.k = omega (arith, i.invariant.0) in
+    sym (numbers-over (take i.k i.numbers) fields i.k k 0x20 c.in-Some.field-0.now)
+    ∙ ap (λ r. numbers_on (take i.k i.numbers) (drop i.k fields) (parts_left 0x20 r)) (sym c.in-Some.is)
+    ∙ i.invariant.2

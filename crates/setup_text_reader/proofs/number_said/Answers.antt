@@ -1,39 +1,40 @@
 -- `setup_text_reader::number_said` meets its contract: what is left of the digits decides.
 use Prim.Native.Nat.{◌-◌, ◌≤◌}
 use mathlib.Core.Path.{sym, ◌∙◌}
+use mathlib.Core.Logic.{⊎_elim}
 use native.Mathlib.Omega.{arith}
-use lib.ListN.{get_or}
-use Rattle.ump.proofs.Auto.{auto}
+use borrow.Author.Tests.{eq-eqb, ne_eqb, eqb-true, eqb-false, lt-ltb}
+use lib.ListN.{length, get_or}
 use Rattle.setup_text.specs.Parse.{number_read}
 use Rattle.setup_text.proofs.Spoken.{number_digits}
-use Rattle.setup_text_reader.proofs.Bytes.{digits-end, digits_low, digits-high, digits-next, digit-more}
+use Rattle.setup_text_reader.proofs.Digits.{digits-end, digits_low, digits-high, digits-next, digit-more}
 use Rattle.setup_text_reader.proofs.number_said.Goals as goal
 
-pub returns-then-word-eq0 : goal.returns-then-word-eq0
+pub returns-then-is_empty : goal.returns-then-is_empty
 unfolding number_read
-returns-then-word-eq0 c = search auto
+returns-then-is_empty c = let w = c.args.word.now in
+    ⊎_elim
+    (λ e. rw (eq-eqb (length w) 0 (eqb-true (length w) 0 (sym c.is_empty.ensures ∙ e))))
+    (λ e. rw (ne_eqb (length w) 0 (λ z. omega arith), lt-ltb 5 (length w) e.1))
+    c.then-is_empty.either
 
-pub returns-then-word-gt5 : goal.returns-then-word-gt5
-unfolding number_read
-returns-then-word-gt5 c = search auto
-
-pub returns-then-digit-lt48 : goal.returns-then-digit-lt48
-returns-then-digit-lt48 c = let i = c.loop-k in
+pub returns-in_default : goal.returns-in_default
+returns-in_default c = let i = c.loop-digit in
     let w = c.args.word.now in
-    sym (number_digits w c.if-word-eq0.false c.if-word-gt5.false ∙ sym i.invariant.2 ∙ digits_low i.value w i.k (omega arith) c.if-digit-lt48.true)
+    sym (number_digits w (eqb-false (length w) 0 (sym c.is_empty.ensures ∙ c.if-is_empty.false)) (omega arith) ∙ sym i.invariant.1 ∙ digits_low i.value w i.digit-index (omega arith) (omega arith))
 
-pub returns-then-digit-gt57 : goal.returns-then-digit-gt57
-returns-then-digit-gt57 c = let i = c.loop-k in
+pub returns-in_default-2 : goal.returns-in_default-2
+returns-in_default-2 c = let i = c.loop-digit in
     let w = c.args.word.now in
-    sym (number_digits w c.if-word-eq0.false c.if-word-gt5.false ∙ sym i.invariant.2 ∙ digits-high i.value w i.k (omega arith) c.if-digit-gt57.true)
+    sym (number_digits w (eqb-false (length w) 0 (sym c.is_empty.ensures ∙ c.if-is_empty.false)) (omega arith) ∙ sym i.invariant.1 ∙ digits-high i.value w i.digit-index (omega arith) (omega arith))
 
-pub loop-k-preserved : goal.loop-k-preserved
-loop-k-preserved c = let i = c.loop-k in
+pub loop-digit-preserved : goal.loop-digit-preserved
+loop-digit-preserved c = let i = c.loop-digit in
     let w = c.args.word.now in
-    let d : get_or w i.k 0 - 0x30 ≤ 9 = omega arith in
-    (omega arith, digit-more i.value (get_or w i.k 0 - 0x30) i.k i.invariant.1 d, sym (digits-next i.value w i.k (omega arith) c.if-digit-lt48.false c.if-digit-gt57.false) ∙ i.invariant.2)
+    let d : get_or w i.digit-index 0 - 0x30 ≤ 9 = omega arith in
+    (digit-more i.value (get_or w i.digit-index 0 - 0x30) i.digit-index i.invariant.0 d, sym (digits-next i.value w i.digit-index (omega arith) (omega arith) (omega arith)) ∙ i.invariant.1)
 
 pub returns : goal.returns
-returns c = let i = c.loop-k in
+returns c = let i = c.loop-digit in
     let w = c.args.word.now in
-    sym (number_digits w c.if-word-eq0.false c.if-word-gt5.false ∙ sym i.invariant.2 ∙ digits-end i.value w i.k (omega arith))
+    sym (number_digits w (eqb-false (length w) 0 (sym c.is_empty.ensures ∙ c.if-is_empty.false)) (omega arith) ∙ sym i.invariant.1 ∙ digits-end i.value w i.digit-index (omega arith))
