@@ -42,14 +42,14 @@ enum Decoded {
 }
 
 // The zones after a message, and its event.
-#[derive(Clone, Copy)]
+#[derive(Clone, Copy, Debug, PartialEq, Eq)]
 pub struct ZonesUpdate {
     pub zones: Zones,
     pub event: MpeEvent,
 }
 
 // What `receive` gives.
-#[derive(Clone, Copy)]
+#[derive(Clone, Copy, Debug, PartialEq, Eq)]
 pub struct ZonesReceived {
     pub zones: Zones,
     pub reply: Result<MpeEvent, OutOfRange>,

@@ -14,8 +14,12 @@ use Rattle.mpe_zones.specs.declared.Zones.{Zones}
 use Rattle.mpe_zones.specs.Zones.{with_zones_of, layout_resets, zones_set_reply}
 use Rattle.mpe_event.specs.Update.{zones_update, message_update, reset_in}
 use Rattle.mpe_receiver.specs.declared.MpeReceiver.{MpeReceiver}
-use Rattle.mpe_receiver.specs.declared.ReceiverUpdate.{ReceiverUpdate}
 use Rattle.mpe_receiver.specs.State.{with_bends, with_pressures, with_brightnesses, zones_of, with_zones}
+
+-- the receiver after a message, and its event
+pub record ReceiverUpdate : Type 0 where
+  pub receiver : MpeReceiver
+  pub event : MpeEvent
 
 abbrev pub receiver_update : MpeReceiver → MpeEvent → ReceiverUpdate
 receiver_update r e = record { receiver = r; event = e }

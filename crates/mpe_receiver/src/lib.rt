@@ -23,7 +23,7 @@ use ump::reply::OutOfRange;
 
 // The layout, the mode and the two sensitivities of each zone, and the last bend, pressure and brightness of each channel.
 #[repr(C)]
-#[derive(Clone, Copy)]
+#[derive(Clone, Copy, Debug, PartialEq, Eq)]
 pub struct MpeReceiver {
     pub layout: MpeLayout,
     // Mode 4.
@@ -37,21 +37,15 @@ pub struct MpeReceiver {
     pub brightness: [u8; 16],
 }
 
-#[derive(Clone, Copy)]
-pub struct ReceiverUpdate {
-    pub receiver: MpeReceiver,
-    pub event: MpeEvent,
-}
-
 // What `receive` gives.
-#[derive(Clone, Copy)]
+#[derive(Clone, Copy, Debug, PartialEq, Eq)]
 pub struct Received {
     pub receiver: MpeReceiver,
     pub reply: Result<MpeEvent, OutOfRange>,
 }
 
 // What `set_layout` gives.
-#[derive(Clone, Copy)]
+#[derive(Clone, Copy, Debug, PartialEq, Eq)]
 pub struct LayoutSet {
     pub receiver: MpeReceiver,
     pub reply: Result<u16, OutOfRange>,
