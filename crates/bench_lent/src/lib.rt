@@ -24,9 +24,10 @@ fn part_code(zone: MpeZone, manager: bool) -> u64
     ensures { (result ≡ part_code zone manager) × (result < 4) }
 {
     if manager {
-        return 2 + zone_code(zone);
+        2 + zone_code(zone)
+    } else {
+        zone_code(zone)
     }
-    zone_code(zone)
 }
 
 fn event_code(event: MpeEvent) -> u64

@@ -10,19 +10,17 @@ use byte_call::step;
 use receiving_end::end::End;
 
 // A new end receives the bytes by value: the sum of its replies.
+#[tactic(auto, using(crate::proofs::Left::replies_left), unfolding(crate::specs::Runs::replies_sum))]
 #[unsafe(no_mangle)]
 pub extern "C" fn gurfemau_replies(bytes: &[u8]) -> u64
     ensures { result ≡ replies_sum new_end 0 bytes.now }
 {
-    let mut e = End::new();
+    let mut end = End::new();
     let mut sum: u64 = 0;
-    let mut i: usize = 0;
-    while i < bytes.len() {
-        let s = step(e, bytes[i]);
-        let reply = s.reply;
-        e = s.end;
-        sum = std::num::wrapping_add_u64(sum, reply_code(reply));
-        i += 1;
+    for b in bytes {
+        let stepped = step(end, *b);
+        end = stepped.end;
+        sum = sum.wrapping_add(reply_code(stepped.reply));
     }
     sum
 }

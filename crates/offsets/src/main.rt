@@ -3,56 +3,27 @@
 #![tactic(auto)]
 
 use byte_call::step_all;
-use mpe_receiver::Offset;
 use receiving_end::end::End;
 use std::io;
 use std::io::Read;
 
-// What is known between two reads.
-#[derive(Clone, Copy)]
-struct Listening {
-    end: End,
-    // More may come.
-    going: bool,
-    // No read failed.
-    well: bool,
-}
-
-// Reads once, and the end receives what came.
-fn listen(input: &mut impl Read, l: Listening) -> Listening {
-    let mut next = l;
+// The end after all bytes of the input. A proved loop has to end, and nothing says that the input does: it counts its reads, to a number that no run uses up.
+fn listen_to_the_end(input: &mut impl Read) -> io::Result<End> {
+    let mut end = End::new();
     let mut text = [0u8; 4096];
-    match input.read(&mut text) {
-        Ok(0) => next.going = false,
-        Ok(n) => next.end = step_all(l.end, &text[..n]),
-        Err(_) => {
-            next.going = false;
-            next.well = false;
-        }
-    }
-    next
-}
-
-// A proved loop has to end, and nothing says that the input does: it counts its reads, to a number that no run uses up.
-fn listen_to_the_end(input: &mut impl Read) -> Listening {
-    let mut l = Listening {
-        end: End::new(),
-        going: true,
-        well: true,
-    };
     for _ in 0..u64::MAX {
-        if !l.going {
-            break;
+        match input.read(&mut text)? {
+            0 => break,
+            n => end = step_all(end, &text[..n]),
         }
-        l = listen(input, l);
     }
-    l
+    Ok(end)
 }
 
-fn print_offset(rt: &impl Print, offset: Offset) -> io::Result<()> {
+fn print_offset(rt: &impl Print, offset: Option<i32>) -> io::Result<()> {
     match offset {
-        Offset::Offset(z) => print!(rt; "{z}"),
-        Offset::NoRole => print!(rt; "-"),
+        Some(z) => print!(rt; "{z}"),
+        None => print!(rt; "-"),
     }
 }
 
@@ -69,10 +40,10 @@ fn print_channels(rt: &impl Print, end: End) {
 }
 
 fn main(rt: HostRuntime) {
-    let l = listen_to_the_end(&mut rt.stdin());
-    if !l.well {
-        let _ = eprintln!(rt; "offsets: standard input cannot be read");
-        return;
+    match listen_to_the_end(&mut rt.stdin()) {
+        Ok(end) => print_channels(&rt, end),
+        Err(_) => {
+            let _ = eprintln!(rt; "offsets: standard input cannot be read");
+        }
     }
-    print_channels(&rt, l.end);
 }
