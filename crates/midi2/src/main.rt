@@ -2,125 +2,93 @@
 // then, channels rising, those of each entry that is still pending.
 #![tactic(auto)]
 
-mod out;
-
 use midi2_text::cable::{Cable, Heard};
-use out::Out;
-use std::io::Read;
+use midi2_text::line::pair_line;
+use std::fmt::{Display, Formatter};
+use std::io::{BufWriter, Read, Write};
+use std::{fmt, io};
 
-// What is known between two reads.
-#[derive(Clone, Copy)]
-struct Listening {
-    cable: Cable,
-    out: Out,
-    // More is to be read.
-    going: bool,
-    // No read failed.
-    well: bool,
+// What failed.
+#[derive(Clone, Copy, Debug)]
+enum Failure {
+    Read,
+    Write,
 }
 
-fn new_listening() -> Listening {
-    Listening {
-        cable: Cable::new(),
-        out: Out::new(),
-        going: true,
-        well: true,
-    }
-}
-
-// The cable after a byte or a flush, with its words printed.
-fn print(rt: &impl Print, l: Listening, heard: Heard, buffer: &mut [u8; 4096]) -> Listening {
-    let cable = heard.cable;
-    let reply = heard.reply;
-    let before = l.out;
-    let after = before.translation(rt, buffer, reply);
-    let mut next = l;
-    next.cable = cable;
-    next.out = after;
-    next
-}
-
-fn hear(rt: &impl Print, l: Listening, byte: u8, buffer: &mut [u8; 4096]) -> Listening {
-    let cable = l.cable;
-    print(rt, l, cable.hear(byte), buffer)
-}
-
-fn hear_all(rt: &impl Print, l: Listening, bytes: &[u8], buffer: &mut [u8; 4096]) -> Listening {
-    let mut next = l;
-    for byte in bytes {
-        next = hear(rt, next, *byte, buffer);
-    }
-    next
-}
-
-fn flush(rt: &impl Print, l: Listening, channel: u8, buffer: &mut [u8; 4096]) -> Listening {
-    let cable = l.cable;
-    print(rt, l, cable.flush(channel), buffer)
-}
-
-fn flush_all(rt: &impl Print, l: Listening, buffer: &mut [u8; 4096]) -> Listening {
-    let mut next = l;
-    for channel in 0..16u8 {
-        next = flush(rt, next, channel, buffer);
-    }
-    next
-}
-
-// Writes the lines that wait; where that fails, nothing more is to be read.
-fn write_lines(rt: &impl Print, l: Listening, buffer: &[u8; 4096]) -> Listening {
-    let before = l.out;
-    let after = before.flush(rt, buffer);
-    let mut next = l;
-    next.out = after;
-    if !after.well {
-        next.going = false;
-    }
-    next
-}
-
-// Reads once, and prints the words of what came.
-fn listen(
-    rt: &impl Print,
-    input: &mut impl Read,
-    l: Listening,
-    buffer: &mut [u8; 4096],
-) -> Listening {
-    let mut next = l;
-    let mut text = [0u8; 4096];
-    match input.read(&mut text) {
-        Ok(0) => next.going = false,
-        Ok(n) => return write_lines(rt, hear_all(rt, l, &text[..n], buffer), buffer),
-        Err(_) => {
-            next.going = false;
-            next.well = false;
+impl Display for Failure {
+    fn fmt<W: fmt::Write>(&self, f: &mut Formatter<W>) -> fmt::Result {
+        match self {
+            Failure::Read => f.write_str("standard input cannot be read"),
+            Failure::Write => f.write_str("standard output cannot be written"),
         }
     }
-    next
 }
 
-// Prints the pending entries at the end of input; or says what failed.
-fn finish(rt: &(impl Print + Eprint), l: Listening, buffer: &mut [u8; 4096]) {
-    if !l.well {
-        let _ = eprintln!(rt; "midi2: standard input cannot be read");
-        return;
+// The cable after a byte or a flush, with its words written. None of a cable is declined: its words are those of messages, and its translator is as
+// they leave it.
+fn write_words(output: &mut impl Write, heard: Heard) -> Result<Cable, Failure> {
+    if let Ok(Some(words)) = heard.reply {
+        output
+            .write_all(&pair_line(words[0], words[1]))
+            .map_err(|_| Failure::Write)?;
     }
-    let last = write_lines(rt, flush_all(rt, l, buffer), buffer);
-    let out = last.out;
-    if !out.well {
-        let _ = eprintln!(rt; "midi2: standard output cannot be written");
+    Ok(heard.cable)
+}
+
+fn hear_all(output: &mut impl Write, cable: Cable, bytes: &[u8]) -> Result<Cable, Failure> {
+    let mut cable = cable;
+    for byte in bytes {
+        cable = write_words(output, cable.hear(*byte))?;
     }
+    output.flush().map_err(|_| Failure::Write)?;
+    Ok(cable)
+}
+
+fn flush_all(output: &mut impl Write, cable: Cable) -> Result<(), Failure> {
+    let mut cable = cable;
+    for channel in 0..16u8 {
+        cable = write_words(output, cable.flush(channel))?;
+    }
+    output.flush().map_err(|_| Failure::Write)
+}
+
+// Reads once, and writes the words of what came; none at the end of input.
+fn listen(
+    input: &mut impl Read,
+    output: &mut impl Write,
+    cable: Cable,
+) -> Result<Option<Cable>, Failure> {
+    let mut text = [0u8; 4096];
+    let n = input.read(&mut text).map_err(|_| Failure::Read)?;
+    if n == 0 {
+        return Ok(None);
+    }
+    let next = hear_all(output, cable, &text[..n])?;
+    Ok(Some(next))
 }
 
 // A proved loop has to end, and nothing says that the input does: it counts its reads, to a number that no run uses up.
-fn main(rt: HostRuntime) {
-    let mut input = rt.stdin();
-    let mut buffer = [0u8; 4096];
-    let mut l = new_listening();
+fn translate(input: &mut impl Read, output: &mut impl Write) -> Result<(), Failure> {
+    let mut cable = Cable::new();
     for _ in 0..u64::MAX {
-        if !l.going {
-            break;
+        match listen(input, output, cable)? {
+            Some(next) => cable = next,
+            None => break,
         }
-        l = listen(&rt, &mut input, l, &mut buffer);
     }
-    finish(&rt, l, &mut buffer);
+    flush_all(output, cable)
+}
+
+// After a write that failed, nothing more is written: what waits then is let go.
+fn run(rt: &(impl Print + AllocGlobal), input: &mut impl Read) -> Result<(), Failure> {
+    let mut output = BufWriter::new(rt.alloc(), io::writer(rt)).map_err(|_| Failure::Write)?;
+    let done = translate(input, &mut output);
+    let _ = output.into_parts();
+    done
+}
+
+fn main(rt: HostRuntime) {
+    if let Err(failure) = run(&rt, &mut rt.stdin()) {
+        let _ = eprintln!(rt; "midi2: {failure}");
+    }
 }
