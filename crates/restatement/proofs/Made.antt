@@ -1,13 +1,14 @@
 -- What the writers of messages give for allowed settings: the words that a restatement has.
 -- Assumes nothing.
-use Prim.Native.Nat.{ℕ, ◌+◌, ◌*◌, ◌<◌, ◌≤◌}
+use Prim.Native.Nat.{ℕ, ◌+◌, ◌*◌, ◌-◌, ◌<◌, ◌≤◌}
 use mathlib.Core.Path.{◌≡◌, refl, sym}
 use mathlib.Core.Bool.{Bool, true, false}
 use mathlib.Core.List.{List, [], ◌∷◌, ◌++◌}
-use native.Mathlib.Nat.{mod-eq_of_lt}
+use native.Mathlib.Nat.{le_refl, mod-eq_of_lt}
 use native.Mathlib.Omega.{arith}
 use lib.Dec.{eqb}
 use lib.ListN.{length, drop}
+use borrow.Rule.Slice.PartMut.{mid_of, mid_len}
 use borrow.Author.Tests.{le-ltb, eqb-false}
 use Rattle.ump.specs.Choice.{when◌then◌else◌}
 use Rattle.std.specs.Result.{IsOk, result_unwrap_or}
@@ -92,7 +93,7 @@ pub record Written (s : Settings) (zone : MpeZone) (got : ℕ) : Type 0 where
   pub buffer : (part : List ℕ) → filled (zone_reply s.layout zone (zone_of s zone).manager (zone_of s zone).member got) (zone_words s.layout zone (zone_of s zone).manager (zone_of s zone).member) part
       ≡ sensitivities s zone ++ drop (length (sensitivities s zone)) part
 
-pub sensitivities-made : (s : Settings) (zone : MpeZone) (got : ℕ) → allowed s ≡ true → length (sensitivities s zone) ≤ got → Written s zone got
+sensitivities-made : (s : Settings) (zone : MpeZone) (got : ℕ) → allowed s ≡ true → length (sensitivities s zone) ≤ got → Written s zone got
 unfolding sensitivities fill_reply
 sensitivities-made s zone got h l =
     let g = allowed-legal s h in
@@ -109,3 +110,10 @@ sensitivities-made s zone got h l =
       count = rw (g, e, z.0, z.1, le-ltb got m fits) (sym n);
       buffer = λ part. rw (g, e, z.0, z.1, le-ltb got m fits, n);
     })
+
+-- the same for a part of a buffer from a place on
+pub part-made : (s : Settings) (zone : MpeZone) (at : ℕ) (xs : List ℕ) → allowed s ≡ true → at + length (sensitivities s zone) ≤ length xs
+    → Written s zone (length (mid_of at (length xs - at) xs))
+part-made s zone at xs h l =
+    let n : length (mid_of at (length xs - at) xs) ≡ length xs - at = mid_len at (length xs) xs (le_refl (length xs)) in
+    sensitivities-made s zone (length (mid_of at (length xs - at) xs)) h (omega arith)

@@ -1,7 +1,9 @@
 -- What the reply of a writer says of the settings and of its buffer.
 -- Assumes nothing.
 use Prim.Native.Nat.{ℕ, ◌+◌, ◌/◌, ◌≤◌}
-use mathlib.Core.Path.{◌≡◌, refl}
+use mathlib.Core.Path.{◌≡◌, refl, ap, ◌∙◌}
+use lib.ListN.{length, take, replicate}
+use lib.Seq.{sets, length-sets}
 use mathlib.Core.Bool.{Bool, true, false}
 use mathlib.Core.List.{List}
 use native.Mathlib.Omega.{arith}
@@ -16,13 +18,12 @@ use Rattle.zone_sender.specs.Zone.{filled, written_read}
 use Rattle.settings.specs.declared.Settings.{Settings}
 use Rattle.settings.specs.Settings.{allowed}
 use Rattle.mpe_layout.specs.declared.MpeLayout.{MpeLayout}
-use Rattle.settings.specs.Messages.{message_count, byte_count, restated_reply}
+use Rattle.settings.specs.Messages.{messages, message_count, byte_count, restated_reply}
+use Rattle.settings.proofs.Allowed.{allowed-legal}
+use Rattle.settings.proofs.Counts.{message-count, most-messages}
+use Rattle.restatement.proofs.Sets.{take-front}
 
--- on a refusal the buffer stays
-pub stays : (e : WriteError) (words out : List ℕ) → out ≡ filled (written_read (Err e)) words out
-stays write_error.OutOfRange words out = refl
-stays (write_error.TooSmall needed got) words out = refl
-
+-- the count that is answered
 pub same_count : {n m : ℕ} → ◌≡◌ {A = Outcome ℕ} (given n) (given m) → n ≡ m
 same_count e = cc
 
@@ -47,3 +48,27 @@ counted s needed got n e =
 pub messages-of : (l : MpeLayout) → (byte_count l + 16) / 3 ≡ message_count l
 unfolding byte_count message_count
 messages-of l = omega arith
+
+-- so many bytes were counted, m are their messages, and ws holds the messages: what is read of ws
+pub record Words (s : Settings) (got n m : ℕ) (ws : List ℕ) : Type 0 where
+  pub is-allowed : allowed s ≡ true
+  pub is-needed : n ≡ byte_count s.layout
+  pub fits : byte_count s.layout ≤ got
+  pub within : m ≤ length ws
+  pub words : take m ws ≡ messages s
+
+pub words-of : (s : Settings) (got n m : ℕ) (ws : List ℕ) → given n ≡ restated_reply s (byte_count s.layout) got → m ≡ (n + 16) / 3
+    → ws ≡ sets (replicate 174 0) 0 (messages s) → Words s got n m ws
+words-of s got n m ws p e f =
+    let q = counted s (byte_count s.layout) got n p in
+    let most = most-messages s.layout (allowed-legal s q.is-allowed) in
+    let k : m ≡ message_count s.layout = e ∙ ap (λ i. (i + 16) / 3) q.is-needed ∙ messages-of s.layout in
+    let l : length ws ≡ 174 = ap length f ∙ simp length-sets in
+    record {
+      is-allowed = q.is-allowed;
+      is-needed = q.is-needed;
+      fits = q.fits;
+      within = omega (arith, k, l, most);
+      words = ap (λ i. take i ws) k ∙ ap (λ x. take (message_count s.layout) x) f
+          ∙ take-front (replicate 174 0) (messages s) (message_count s.layout) (message-count s q.is-allowed) most;
+    }

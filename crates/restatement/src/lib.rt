@@ -29,7 +29,8 @@ fn put<const N: usize>(out: &mut [u32], at: usize, messages: [u32; N]) -> usize
     at + N
 }
 
-// A. Reset All Controllers on each channel.
+// A. Reset All Controllers on each channel. The loops over the channels stay three: one loop with a closure would state its messages as a ghost list,
+// and two clauses of its calls.
 #[tactic(auto, unfolding(settings::specs::Messages::each_channel))]
 fn write_resets(out: &mut [u32])
     requires { 16 ≤ length out.old }
@@ -47,16 +48,10 @@ fn write_announcements(out: &mut [u32], at: usize, layout: MpeLayout)
 {
     put(out, at, mcm_messages(MpeZone::Lower, 7).unwrap());
     put(out, at + 3, mcm_messages(MpeZone::Upper, 7).unwrap());
-    put(
-        out,
-        at + 6,
-        mcm_messages(MpeZone::Lower, layout.lower).unwrap(),
-    );
-    put(
-        out,
-        at + 9,
-        mcm_messages(MpeZone::Upper, layout.upper).unwrap(),
-    );
+    let lower = mcm_messages(MpeZone::Lower, layout.lower).unwrap();
+    let upper = mcm_messages(MpeZone::Upper, layout.upper).unwrap();
+    put(out, at + 6, lower);
+    put(out, at + 9, upper);
 }
 
 // The settings of a zone.
@@ -77,10 +72,9 @@ fn write_sensitivities(out: &mut [u32], at: usize, settings: Settings, zone: Mpe
 {
     let set = zone_settings(settings, zone);
     let part = &mut out[at..];
+    let written = zone_sensitivity_messages(settings.layout, zone, set.manager, set.member, part);
     // An empty zone is out of range to its writer, and nothing is written.
-    at + zone_sensitivity_messages(settings.layout, zone, set.manager, set.member, part).unwrap_or(
-        0,
-    )
+    at + written.unwrap_or(0)
 }
 
 // D. The mode of a zone, if it has members; gives the place after it.

@@ -44,6 +44,7 @@ impl ZoneSettings {
 
 impl Settings {
     // No zone, and every channel at rest; these may be restated.
+    #[tactic(auto, unfolding(mpe_layout::specs::Layout::legal_counts, mpe_layout::specs::Layout::legal, crate::specs::Settings::zone_allowed, crate::specs::Settings::channel_allowed, crate::specs::Settings::channels_allowed, crate::specs::Settings::allowed))]
     pub fn new() -> Settings
         ensures value { result ≡ new_settings }
         ensures limits { allowed result ≡ true }

@@ -15,7 +15,7 @@ use Rattle.settings.proofs.Counts.{message-count, most-messages, byte-count}
 use Rattle.settings.proofs.Demand.{demand-holds}
 use Rattle.settings.proofs.Witnesses.{demand-met}
 use Rattle.restatement.proofs.Sets.{sets-front, take-front}
-use Rattle.restatement.proofs.Reply.{same_count, counted, messages-of}
+use Rattle.restatement.proofs.Reply.{same_count, counted, words-of}
 use native.Mathlib.Omega.{arith}
 use Rattle.restatement.proofs.restatement_bytes.Goals as goal
 
@@ -25,52 +25,36 @@ write_messages-requires c = let s = c.args.settings in
     (q.is-allowed, most-messages s.layout (allowed-legal s q.is-allowed))
 
 pub slice_bounds-words-end : goal.slice_bounds-words-end
-slice_bounds-words-end c = let s = c.args.settings in
-    let q = counted s _ _ _ c.in_ok-n.ensures.reply in
-    let n = c.messages_in.ensures ∙ ap (λ i. (i + 16) / 3) q.is-needed ∙ messages-of s.layout in
-    let f : length c.write_messages.new.out ≡ 174 = ap length c.write_messages.ensures ∙ simp length-sets in
-    omega (arith, f, n, most-messages s.layout (allowed-legal s q.is-allowed))
+slice_bounds-words-end c =
+    (words-of c.args.settings _ _ _ _ c.in_ok-n.ensures.reply c.messages_in.ensures c.write_messages.ensures).within
 
 pub slice_bounds-write_bytes-end : goal.slice_bounds-write_bytes-end
-slice_bounds-write_bytes-end c = let s = c.args.settings in
-    let q = counted s _ _ _ c.in_ok-n.ensures.reply in
-    let n = c.messages_in.ensures ∙ ap (λ i. (i + 16) / 3) q.is-needed ∙ messages-of s.layout in
-    let f : length c.write_messages.new.out ≡ 174 = ap length c.write_messages.ensures ∙ simp length-sets in
-    sym (length-take-le c.messages_in.result c.write_messages.new.out (omega (arith, f, n, most-messages s.layout (allowed-legal s q.is-allowed))))
+slice_bounds-write_bytes-end c =
+    let w = words-of c.args.settings _ _ _ _ c.in_ok-n.ensures.reply c.messages_in.ensures c.write_messages.ensures in
+    sym (length-take-le _ _ w.within)
 
 pub write_bytes-requires : goal.write_bytes-requires
-write_bytes-requires c = let s = c.args.settings in
-    let q = counted s _ _ _ c.in_ok-n.ensures.reply in
-    let t = q.is-allowed in
-    let most = most-messages s.layout (allowed-legal s t) in
-    let ws = c.write_messages.new.out in
-    let v : take (message_count s.layout) ws ≡ messages s =
-    ap (λ l. take (message_count s.layout) l) c.write_messages.ensures
-    ∙ take-front (replicate 174 0) (messages s) (message_count s.layout) (message-count s t) most in
-    let n = c.messages_in.ensures ∙ ap (λ i. (i + 16) / 3) q.is-needed ∙ messages-of s.layout in
-    rw (n, v) (omega (arith, byte-count s t, q.fits))
+write_bytes-requires c =
+    let s = c.args.settings in
+    let w = words-of s _ _ _ _ c.in_ok-n.ensures.reply c.messages_in.ensures c.write_messages.ensures in
+    rw w.words (omega (arith, byte-count s w.is-allowed, w.fits))
 
 pub returns : goal.returns
 returns c = let s = c.args.settings in
     let o = c.args.out.now in
     let p = c.in_ok-n.ensures.reply in
-    let q = counted s _ _ _ p in
-    let t = q.is-allowed in
-    let ws = c.write_messages.new.out in
-    let v : take (message_count s.layout) ws ≡ messages s =
-    ap (λ l. take (message_count s.layout) l) c.write_messages.ensures
-    ∙ take-front (replicate 174 0) (messages s) (message_count s.layout) (message-count s t) (most-messages s.layout (allowed-legal s t)) in
+    let w = words-of s _ _ _ _ p c.messages_in.ensures c.write_messages.ensures in
+    let t = w.is-allowed in
     let x = c.write_bytes.new.out in
-    let y : x ≡ sets o 0 (restatement s) =
-    c.write_bytes.ensures ∙ ap (λ l. sets o 0 (bytes l)) (ap (λ n. take n ws) (c.messages_in.ensures ∙ ap (λ i. (i + 16) / 3) q.is-needed ∙ messages-of s.layout) ∙ v) in
+    let y : x ≡ sets o 0 (restatement s) = c.write_bytes.ensures ∙ ap (λ l. sets o 0 (bytes l)) w.words in
     let n = byte-count s t in
-    let e : x ≡ restatement s ++ drop (byte_count s.layout) o = y ∙ sets-front o (restatement s) (rw n q.fits) ∙ rw n in
+    let e : x ≡ restatement s ++ drop (byte_count s.layout) o = y ∙ sets-front o (restatement s) (rw n w.fits) ∙ rw n in
     let first : take (byte_count s.layout) x ≡ restatement s =
-    ap (λ l. take (byte_count s.layout) l) y ∙ take-front o (restatement s) (byte_count s.layout) n q.fits in
+    ap (λ l. take (byte_count s.layout) l) y ∙ take-front o (restatement s) (byte_count s.layout) n w.fits in
     let written : (i : ℕ) → ◌≡◌ {A = Outcome ℕ} (given _) (given i) → take i x ≡ restatement s =
-    λ i g. ap (λ r. take r x) (sym (same_count g) ∙ q.is-needed) ∙ first in record {
+    λ i g. ap (λ r. take r x) (sym (same_count g) ∙ w.is-needed) ∙ first in record {
       reply = p;
-      buffer = e ∙ ap (λ i. filled (given i) (restatement s) o) (sym q.is-needed) ∙ ap (λ r. filled r (restatement s) o) p;
+      buffer = e ∙ ap (λ i. filled (given i) (restatement s) o) (sym w.is-needed) ∙ ap (λ r. filled r (restatement s) o) p;
       demand = λ i g. subst (λ l. Demand s l) (sym (written i g)) (demand-holds s t);
       met = λ i g. subst (λ l. Met s l) (sym (written i g)) (demand-met s t);
     }

@@ -10,11 +10,6 @@ use Rattle.restatement.proofs.Sets.{sets-front}
 use Rattle.restatement.proofs.Reply.{stays, counted}
 use Rattle.restatement.proofs.restatement_words.Goals as goal
 
-pub returns-in_err-count-clause-buffer : goal.returns-in_err-count-clause-buffer
-returns-in_err-count-clause-buffer c = let s = c.args.settings in
-    let o = c.args.out.now in
-    stays c.in_err-count.field-0.0 (messages s) o ∙ ap (λ r. filled r (messages s) o) c.in_err-count.ensures.reply
-
 pub returns-in_err-count-clause-counts : goal.returns-in_err-count-clause-counts
 returns-in_err-count-clause-counts c = counts-hold
 

@@ -1,31 +1,27 @@
 -- `restatement::write_sensitivities` meets its contract: the part of the buffer comes back with the words of the zone at its front.
-use Rattle.std.proofs.Common.{◌≡◌, ◌+◌, ◌-◌, length, ap, ◌∙◌, le_refl, arith}
-use borrow.Rule.Slice.PartMut.{mid_of, mid_len}
+use Rattle.std.proofs.Common.{◌≡◌, ◌+◌, ◌-◌, length, ap, ◌∙◌, arith}
+use borrow.Rule.Slice.PartMut.{mid_of}
 use Rattle.settings.specs.Messages.{sensitivities}
 use Rattle.restatement.proofs.Sets.{sets-part}
-use Rattle.restatement.proofs.Made.{count-or-0, sensitivities-made}
+use Rattle.restatement.proofs.Made.{count-or-0, part-made}
 use Rattle.restatement.proofs.write_sensitivities.Goals as goal
 
 pub overflow_add-result : goal.overflow_add-result
 overflow_add-result c =
     let a = c.args in
-    let xs = a.out.now in
-    let n : length (mid_of a.at (length xs - a.at) xs) ≡ length xs - a.at = mid_len a.at (length xs) xs (le_refl (length xs)) in
-    let w = sensitivities-made a.settings a.zone (length (mid_of a.at (length xs - a.at) xs)) c.requires.0 (omega (arith, c.requires.1)) in
+    let w = part-made a.settings a.zone a.at a.out.now c.requires.0 c.requires.1 in
     let v : c.unwrap_or.result ≡ length (sensitivities a.settings a.zone) =
-    c.unwrap_or.ensures ∙ count-or-0 c.zone_sensitivity_messages.result ∙ rw (c.zone_sensitivity_messages.ensures.reply, c.zone_settings-set.ensures) w.count in
+    c.unwrap_or.ensures ∙ count-or-0 c.zone_sensitivity_messages-written.result ∙ rw (c.zone_sensitivity_messages-written.ensures.reply, c.zone_settings-set.ensures) w.count in
     omega (arith, c.requires.1)
 
 pub returns : goal.returns
 returns c =
     let a = c.args in
-    let s = a.settings in
     let xs = a.out.now in
-    let n : length (mid_of a.at (length xs - a.at) xs) ≡ length xs - a.at = mid_len a.at (length xs) xs (le_refl (length xs)) in
-    let w = sensitivities-made s a.zone (length (mid_of a.at (length xs - a.at) xs)) c.requires.0 (omega (arith, c.requires.1)) in
-    let m = c.zone_sensitivity_messages.ensures in
-    let v : c.unwrap_or.result ≡ length (sensitivities s a.zone) = c.unwrap_or.ensures ∙ count-or-0 c.zone_sensitivity_messages.result ∙ rw (m.reply, c.zone_settings-set.ensures) w.count in
+    let w = part-made a.settings a.zone a.at xs c.requires.0 c.requires.1 in
+    let m = c.zone_sensitivity_messages-written in
+    let v : c.unwrap_or.result ≡ length (sensitivities a.settings a.zone) = c.unwrap_or.ensures ∙ count-or-0 m.result ∙ rw (m.ensures.reply, c.zone_settings-set.ensures) w.count in
     record {
       place = ap (λ k. a.at + k) v;
-      buffer = sets-part xs c.zone_sensitivity_messages.new.out (sensitivities s a.zone) a.at c.requires.1 (rw (m.buffer, c.zone_settings-set.ensures) (w.buffer (mid_of a.at (length xs - a.at) xs)));
+      buffer = sets-part xs m.new.out (sensitivities a.settings a.zone) a.at c.requires.1 (rw (m.ensures.buffer, c.zone_settings-set.ensures) (w.buffer (mid_of a.at (length xs - a.at) xs)));
     }
