@@ -9,12 +9,8 @@ use mathlib.Core.List.{List}
 use native.Mathlib.Omega.{arith}
 use lib.Dec.{ltb}
 use borrow.Author.Tests.{ltb-false}
-use Rattle.std.specs.Prelude.{Err}
 use Rattle.ump.specs.Choice.{when◌then◌else◌}
 use Rattle.ump.specs.Outcome.{Outcome, given, out_of_range, too_small}
-use Rattle.zone_sender.specs.declared.WriteError.{WriteError}
-use Rattle.zone_sender.specs.declared.WriteError.TheVariants as write_error
-use Rattle.zone_sender.specs.Zone.{filled, written_read}
 use Rattle.settings.specs.declared.Settings.{Settings}
 use Rattle.settings.specs.Settings.{allowed}
 use Rattle.mpe_layout.specs.declared.MpeLayout.{MpeLayout}

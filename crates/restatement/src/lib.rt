@@ -19,7 +19,8 @@ use ump::channel_voice1::{channel, control_change, first_data, opcode, second_da
 use ump::reply::OutOfRange;
 use zone_sender::{WriteError, zone_sensitivity_messages};
 
-// Puts messages at a place, and gives the place after them. `out` and `at` stay two: a struct of both would hold the `&mut`, and no contract be shorter.
+// Puts messages at a place, and gives the place after them.
+// `out` and `at` stay two parameters: a struct of both would hold the `&mut`, and no contract would be shorter.
 fn put<const N: usize>(out: &mut [u32], at: usize, messages: [u32; N]) -> usize
     requires { at + N ≤ length out.old }
     ensures place { result ≡ at + N }
@@ -29,8 +30,8 @@ fn put<const N: usize>(out: &mut [u32], at: usize, messages: [u32; N]) -> usize
     at + N
 }
 
-// A. Reset All Controllers on each channel. The loops over the channels stay three: one loop with a closure would state its messages as a ghost list,
-// and two clauses of its calls.
+// A. Reset All Controllers on each channel.
+// The loops over the channels stay three: one with a closure would state its messages as a ghost list, and two clauses of its calls.
 #[tactic(auto, unfolding(settings::specs::Messages::each_channel))]
 fn write_resets(out: &mut [u32])
     requires { 16 ≤ length out.old }

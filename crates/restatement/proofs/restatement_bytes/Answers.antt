@@ -1,17 +1,17 @@
 -- `restatement::restatement_bytes` meets its contract: refused, too small, or the bytes of all the messages, of which demand 3 holds, with its hypotheses met.
 use mathlib.Core.Path.{◌≡◌, sym, ap, subst, ◌∙◌}
-use Prim.Native.Nat.{ℕ, ◌+◌, ◌/◌}
+use Prim.Native.Nat.{ℕ}
 use mathlib.Core.List.{◌++◌}
-use lib.ListN.{length, take, drop, replicate}
-use lib.Seq.{sets, length-sets}
+use lib.ListN.{take, drop}
+use lib.Seq.{sets}
 use Rattle.std.proofs.lemmas.List.{length-take-le}
 use Rattle.ump.specs.Outcome.{Outcome, given}
 use Rattle.zone_sender.specs.Zone.{filled}
-use Rattle.settings.specs.Messages.{messages, bytes, restatement, message_count, byte_count}
+use Rattle.settings.specs.Messages.{bytes, restatement, byte_count}
 use Rattle.settings.specs.Demand.{Demand}
 use Rattle.settings.specs.Witnesses.{Met}
 use Rattle.settings.proofs.Allowed.{allowed-legal}
-use Rattle.settings.proofs.Counts.{message-count, most-messages, byte-count}
+use Rattle.settings.proofs.Counts.{most-messages, byte-count}
 use Rattle.settings.proofs.Demand.{demand-holds}
 use Rattle.settings.proofs.Witnesses.{demand-met}
 use Rattle.restatement.proofs.Sets.{sets-front, take-front}

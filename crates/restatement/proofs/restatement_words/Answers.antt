@@ -7,7 +7,7 @@ use Rattle.zone_sender.specs.Zone.{filled}
 use Rattle.settings.specs.Messages.{messages, message_count}
 use Rattle.settings.proofs.Counts.{message-count, counts-hold}
 use Rattle.restatement.proofs.Sets.{sets-front}
-use Rattle.restatement.proofs.Reply.{stays, counted}
+use Rattle.restatement.proofs.Reply.{counted}
 use Rattle.restatement.proofs.restatement_words.Goals as goal
 
 pub returns-in_err-count-clause-counts : goal.returns-in_err-count-clause-counts
