@@ -6,9 +6,9 @@ ghost use Rattle.std.specs.Prelude.{◌≤◌, length};
 
 use restatement::restatement_bytes;
 use settings::Settings;
-use setup_reader::{SetupReply, setup_settings};
+use setup_entry::SetupError;
+use setup_reader::setup_settings;
 use std::io::Read;
-use zone_sender::Written;
 
 fn complain(rt: &impl Eprint, line: &str) {
     let _ = eprintln!(rt; "{line}");
@@ -21,31 +21,37 @@ fn read_full(input: &mut impl Read, buffer: &mut [u8]) -> usize
     let mut done = 0;
     while done < buffer.len() {
         match input.read(&mut buffer[done..]) {
-            Ok(0) => break,
+            Ok(0) | Err(_) => break,
             Ok(n) => done += n,
-            Err(_) => break,
         }
     }
     done
 }
 
-// The first n bytes; false where they cannot be written.
-fn write_first(rt: &impl Print, bytes: &[u8], n: usize) -> bool {
-    if bytes.len() < n {
-        return false;
-    }
-    rt.write_all(&bytes[..n]).is_ok()
-}
-
 // The restatement of settings that were read. They are legal and no restatement is longer than the buffer, so that it is always written.
 fn restate(rt: &(impl Print + Eprint), settings: Settings) {
-    let mut out = [0u8; 4096];
-    let reply = restatement_bytes(settings, &mut out);
-    let Written::Count(n) = reply else {
+    let mut out = [0; 4096];
+    let Ok(n) = restatement_bytes(settings, &mut out) else {
         return;
     };
-    if !write_first(rt, &out, n) {
+    if !out
+        .get(..n)
+        .is_some_and(|written| rt.write_all(written).is_ok())
+    {
         complain(rt, "restate: standard output cannot be written");
+    }
+}
+
+// What is said of a file that is refused. The words stand here, and not at the error: of a text 4 means another thing.
+fn refusal_of(error: SetupError) -> &'static str {
+    match error {
+        SetupError::OutOfRange => "restate: refused, 1: out of range",
+        SetupError::WrongLength => {
+            "restate: refused, 4: the file ends before or inside a section, or goes on after the label"
+        }
+        SetupError::OutOfOrder => {
+            "restate: refused, 5: an entry out of rising order, or a channel at rest"
+        }
     }
 }
 
@@ -60,19 +66,8 @@ fn main(rt: HostRuntime) {
         complain(&rt, "restate: standard input cannot be read");
         return;
     }
-    let read = setup_settings(&file[..n]);
-    let reply = read.reply;
-    let settings = read.settings;
-    match reply {
-        SetupReply::Read => restate(&rt, settings),
-        SetupReply::OutOfRange => complain(&rt, "restate: refused, 1: out of range"),
-        SetupReply::WrongLength => complain(
-            &rt,
-            "restate: refused, 4: the file ends before or inside a section, or goes on after the label",
-        ),
-        SetupReply::OutOfOrder => complain(
-            &rt,
-            "restate: refused, 5: an entry out of rising order, or a channel at rest",
-        ),
+    match setup_settings(&file[..n]) {
+        Ok(settings) => restate(&rt, settings),
+        Err(error) => complain(&rt, refusal_of(error)),
     }
 }

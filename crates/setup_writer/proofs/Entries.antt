@@ -1,60 +1,17 @@
--- Entries of a writer: which are listed, how many there are, and stores that put one.
+-- Entries of a writer: which are listed, how many there are, and their bytes.
 -- Assumes nothing.
-use Prim.Native.Nat.{ℕ, zero, suc, ◌+◌, ◌-◌, ◌/◌, ◌%◌, ◌^◌, ◌<◌, ◌≤◌}
+use Prim.Native.Nat.{ℕ, zero, suc, ◌+◌, ◌-◌, ◌<◌, ◌≤◌}
 use mathlib.Core.Path.{◌≡◌, refl, sym, ap, ◌∙◌}
 use mathlib.Core.Bool.{true, false}
 use mathlib.Core.List.{List, [], ◌∷◌, ◌++◌, flatten, append_assoc, append-nil}
 use native.Mathlib.Omega.{arith}
 use native.Mathlib.Nat.{le_refl, add-zero, add-suc, zero-add, suc-add}
-use native.Mathlib.Numerals.{add-one, add-two}
-use lib.Dec.{eqb}
-use lib.ListN.{length, set, length-append}
-use lib.Seq.{sets}
-use borrow.Author.Tests.{ne_eqb, eqb-true}
-use Rattle.ump.specs.Choice.{when◌then◌else◌}
+use lib.ListN.{length, length-append}
 use Rattle.ump.proofs.Cases.{by-test}
 use Rattle.settings.specs.declared.Settings.{Settings}
 use Rattle.setup_file.specs.declared.Section.{Section}
 use Rattle.setup_file.specs.declared.Section.TheVariants.{Zones, Channels}
-use Rattle.setup_file.specs.Format.{most, entry_size, at_rest, unlisted, entry_of, entries_from}
-
--- the halves of a bend are at rest exactly at 0x2000
-pub bend-rest : (bend pressure brightness : ℕ) → bend ≡ 0x2000
-    → at_rest (bend / 2 ^ 7) (bend % 2 ^ 7) pressure brightness ≡ (when eqb pressure 0 then eqb brightness 64 else false)
-unfolding at_rest
-bend-rest bend pressure brightness e = rw e
-
-pub bend-moved : (bend pressure brightness : ℕ) → (bend ≡ 0x2000 → ⊥) → at_rest (bend / 2 ^ 7) (bend % 2 ^ 7) pressure brightness ≡ false
-unfolding at_rest
-bend-moved bend pressure brightness n =
-    by-test (eqb (bend / 2 ^ 7) 64)
-    (λ t.
-    let m : bend / 2 ^ 7 ≡ 64 = eqb-true (bend / 2 ^ 7) 64 t in
-    let l : bend % 2 ^ 7 ≡ 0 → ⊥ = λ z. n (omega arith) in
-    rw (t, ne_eqb (bend % 2 ^ 7) 0 l))
-    (λ f. rw f)
-
--- stores from a place on are one run of stores
-module _ (o : List ℕ) (at a b c d e : ℕ) where
-  pub five-stores : set (set (set (set (set o at a) (at + 1) b) (at + 2) c) (at + 3) d) (at + 4) e ≡ sets o at (a ∷ b ∷ c ∷ d ∷ e ∷ [])
-  five-stores =
-      let p : at + 3 ≡ suc (suc (suc at)) = omega arith in
-      let q : at + 4 ≡ suc (suc (suc (suc at))) = omega arith in
-      rw (add-one, add-two, p, q)
-
-  pub seven-stores : (f g : ℕ)
-      → set (set (set (set (set (set (set o at a) (at + 1) b) (at + 2) c) (at + 3) d) (at + 4) e) (at + 5) f) (at + 6) g ≡ sets o at (a ∷ b ∷ c ∷ d ∷ e ∷ f ∷ g ∷ [])
-  seven-stores f g =
-      let p : at + 3 ≡ suc (suc (suc at)) = omega arith in
-      let q : at + 4 ≡ suc (suc (suc (suc at))) = omega arith in
-      let r : at + 5 ≡ suc (suc (suc (suc (suc at)))) = omega arith in
-      let s : at + 6 ≡ suc (suc (suc (suc (suc (suc at))))) = omega arith in
-      rw (add-one, add-two, p, q, r, s)
-
--- a section has at most sixteen numbers
-pub most-small : (section : Section) → most section ≤ 16
-most-small Zones = omega arith
-most-small Channels = omega arith
+use Rattle.setup_file.specs.Format.{entry_size, unlisted, entry_of, entries_from}
 
 module _ (section : Section) (s : Settings) where
   -- the entry of one number
@@ -80,12 +37,27 @@ module _ (section : Section) (s : Settings) where
   next-number k = one_more 0 k ∙ ap (λ j. entries_from section s 0 k ++ entries_from section s j 1) (zero-add k)
 
   -- at most as many entries as numbers
-  pub count-at-most : (n k : ℕ) → length (entries_from section s k n) ≤ n
+  pub count_at_most : (n k : ℕ) → length (entries_from section s k n) ≤ n
   unfolding entries_from
-  count-at-most zero k = omega arith
-  count-at-most (suc n) k =
-      let i = count-at-most n (suc k) in
+  count_at_most zero k = omega arith
+  count_at_most (suc n) k =
+      let i = count_at_most n (suc k) in
       by-test (unlisted section (entry_of section s k)) (λ t. rw t (omega arith)) (λ f. rw f (omega arith))
+
+-- one entry more, or none
+module _ (section : Section) (s : Settings) (k : ℕ) where
+  pub count_listed : unlisted section (entry_of section s k) ≡ false → length (entries_from section s 0 (k + 1)) ≡ length (entries_from section s 0 k) + 1
+  count_listed u =
+      ap length (next-number section s k)
+      ∙ length-append (entries_from section s 0 k) (entries_from section s k 1)
+      ∙ ap (λ l. length (entries_from section s 0 k) + length l) (one-listed section s k u)
+
+  pub count_unlisted : unlisted section (entry_of section s k) ≡ true → length (entries_from section s 0 (k + 1)) ≡ length (entries_from section s 0 k)
+  count_unlisted u =
+      ap length (next-number section s k)
+      ∙ length-append (entries_from section s 0 k) (entries_from section s k 1)
+      ∙ ap (λ l. length (entries_from section s 0 k) + length l) (one-unlisted section s k u)
+      ∙ add-zero (length (entries_from section s 0 k))
 
 -- bytes of entries, and of one list of them after another
 pub flatten-append : (u v : List (List ℕ)) → flatten (u ++ v) ≡ flatten u ++ flatten v
@@ -99,16 +71,16 @@ flatten-one e = append-nil e
 
 -- the bytes of the entry of one number
 module _ (section : Section) (s : Settings) (k : ℕ) where
-  pub unlisted-bytes : unlisted section (entry_of section s k) ≡ true → flatten (entries_from section s k 1) ≡ []
+  pub unlisted_bytes : unlisted section (entry_of section s k) ≡ true → flatten (entries_from section s k 1) ≡ []
   unfolding flatten
-  unlisted-bytes u = ap flatten (one-unlisted section s k u)
+  unlisted_bytes u = ap flatten (one-unlisted section s k u)
 
-  pub listed-bytes : unlisted section (entry_of section s k) ≡ false → flatten (entries_from section s k 1) ≡ entry_of section s k
-  listed-bytes u = ap flatten (one-listed section s k u) ∙ flatten-one (entry_of section s k)
+  pub listed_bytes : unlisted section (entry_of section s k) ≡ false → flatten (entries_from section s k 1) ≡ entry_of section s k
+  listed_bytes u = ap flatten (one-listed section s k u) ∙ flatten-one (entry_of section s k)
 
-pub entry-long : (section : Section) (s : Settings) (k : ℕ) → length (entry_of section s k) ≡ entry_size section
-entry-long Zones s k = refl
-entry-long Channels s k = refl
+pub entry_long : (section : Section) (s : Settings) (k : ℕ) → length (entry_of section s k) ≡ entry_size section
+entry_long Zones s k = refl
+entry_long Channels s k = refl
 
 -- the bytes of the entries below k, and of the next
 module _ (section : Section) (s : Settings) where

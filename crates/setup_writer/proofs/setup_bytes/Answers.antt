@@ -1,41 +1,30 @@
 -- `setup_writer::setup_bytes` meets its contract: refused, too small, or the file; and the reader takes the bytes that were written.
-use Prim.Native.Nat.{ℕ, ◌+◌}
+use Prim.Native.Nat.{ℕ}
 use mathlib.Core.Path.{◌≡◌, refl, sym, ap, ◌∙◌}
 use mathlib.Core.List.{◌∷◌, ◌++◌}
 use native.Mathlib.Omega.{arith}
 use lib.ListN.{length, take, drop, length-append}
 use lib.Seq.{sets, length-sets}
 use Rattle.ump.specs.Outcome.{Outcome, given}
-use Rattle.zone_sender.specs.Zone.{filled, written_read}
+use Rattle.zone_sender.specs.Zone.{filled}
 use Rattle.restatement.proofs.Sets.{chain, sets-front, take-front}
-use Rattle.restatement.proofs.Reply.{stays, not-counted, same_count}
+use Rattle.restatement.proofs.Reply.{same_count}
 use Rattle.setup_file.specs.declared.Section.TheVariants.{Zones, Channels}
 use Rattle.setup_file.specs.Format.{section_of, setup_file}
 use Rattle.setup_file.specs.Read.{file_read}
 use Rattle.setup_file.proofs.ReadBack.{read_back}
-use Rattle.setup_writer.proofs.Sizes.{label-at-most, parts-long, file-sizes}
+use Rattle.setup_writer.proofs.Sizes.{label_at_most, parts-long, file-sizes}
 use Rattle.setup_writer.proofs.Replies.{counted}
-use borrow.Author.Rules.{rules}
 use Rattle.setup_writer.proofs.setup_bytes.Goals as goal
 
-pub returns-in_default : goal.returns-in_default
-returns-in_default c = let a = c.args in
-    let o = a.out.now in
-    let x = setup_file a.settings a.label.now in
-    let r = c.file_reply-reply.result in
-    let p = c.file_reply-reply.ensures in
-    record {
-      reply = p;
-      buffer = stays r x o (search rules) ∙ ap (λ q. filled q x o) p;
-      read_back = λ n e. absurd (not-counted r (search rules) n e);
-      sizes = file-sizes;
-    }
+pub returns-in_err-count-clause-sizes : goal.returns-in_err-count-clause-sizes
+returns-in_err-count-clause-sizes c = file-sizes
 
 pub put_section-channels-requires : goal.put_section-channels-requires
 put_section-channels-requires c = let a = c.args in
     let s = a.settings in
     let l = a.label.now in
-    let p = sym (ap written_read c.in-Count.is) ∙ c.file_reply-reply.ensures in
+    let p = c.in_ok-count.ensures in
     let q = counted s l _ _ p in
     let f = q.fits in
     let z = parts-long s l in
@@ -45,7 +34,7 @@ pub put_section-end-requires : goal.put_section-end-requires
 put_section-end-requires c = let a = c.args in
     let s = a.settings in
     let l = a.label.now in
-    let p = sym (ap written_read c.in-Count.is) ∙ c.file_reply-reply.ensures in
+    let p = c.in_ok-count.ensures in
     let q = counted s l _ _ p in
     let f = q.fits in
     let z = parts-long s l in
@@ -58,7 +47,7 @@ pub put_label-requires : goal.put_label-requires
 put_label-requires c = let a = c.args in
     let s = a.settings in
     let l = a.label.now in
-    let p = sym (ap written_read c.in-Count.is) ∙ c.file_reply-reply.ensures in
+    let p = c.in_ok-count.ensures in
     let q = counted s l _ _ p in
     let f = q.fits in
     let z = parts-long s l in
@@ -68,13 +57,13 @@ put_label-requires c = let a = c.args in
     ap length c.put_section-end.ensures.buffer ∙ length-sets c.put_section-channels.new.out c.put_section-channels.result (section_of Channels s) in
     let n = c.put_section-channels.ensures.place in
     let m = c.put_section-end.ensures.place in
-    (label-at-most l q.writable.allowed_label, omega arith)
+    (label_at_most l q.writable.allowed_label, omega arith)
 
 pub returns : goal.returns
 returns c = let a = c.args in
     let s = a.settings in
     let l = a.label.now in
-    let p = sym (ap written_read c.in-Count.is) ∙ c.file_reply-reply.ensures in
+    let p = c.in_ok-count.ensures in
     let q = counted s l _ _ p in
     let f = q.fits in
     let z = parts-long s l in
