@@ -3,7 +3,7 @@
 
 ghost use Rattle.std.specs.Prelude.{◌≡◌, ◌<◌, IfOk};
 ghost use Rattle.ump.specs.Outcome.{given, answered};
-ghost use Rattle.mpe_layout.specs.Layout.{legal_counts, no_zones, default_layout, legal, of_legal, members_of, other_zone, manager_of, active, place_of, role_at, role_of, lowest_or_none, left_beside, layout_for, new_layout, mcm_layout, role_given, member_found};
+ghost use Rattle.mpe_layout.specs.Layout.{no_zones, default_layout, legal, of_legal, members_of, other_zone, manager_of, active, place_of, role_at, role_of, lowest_or_none, left_beside, layout_for, new_layout, mcm_layout, role_given, member_found};
 ghost use Rattle.mpe_layout.specs.Sheet.{HoldsPlaces};
 ghost use Rattle.mpe_layout.specs.declared.MemberError.TheVariants as member_error;
 
@@ -56,11 +56,13 @@ enum ZonePlace {
     AsMember,
 }
 
-// The places as the sheet writes them: outside the zone, the zone's manager, a member.
+// An entry of the sheet: outside the zone.
 const N: ZonePlace = ZonePlace::Outside;
 
+// The zone's manager.
 const G: ZonePlace = ZonePlace::AsManager;
 
+// A member.
 const M: ZonePlace = ZonePlace::AsMember;
 
 // The sheet of places in a zone, as a bench sheet has it: a row for each member count, a column for each distance from the manager.
@@ -99,8 +101,7 @@ fn place_listed(members: u8, distance: u8) -> ZonePlace
     requires { (members < 16) × (distance < 16) }
     ensures { result ≡ place_of members distance }
 {
-    let sheet = sheet();
-    sheet[members as usize][distance as usize]
+    sheet()[members as usize][distance as usize]
 }
 
 // The same place by comparisons.
@@ -128,14 +129,6 @@ fn role_at(lower: ZonePlace, upper: ZonePlace) -> MpeRole
         (ZonePlace::Outside, ZonePlace::AsMember) => MpeRole::Member(MpeZone::Upper),
         (ZonePlace::Outside, ZonePlace::Outside) => MpeRole::NoZone,
     }
-}
-
-// A zone has at most 15 members, and two active zones at most 14 in all.
-#[tactic(auto, unfolding(crate::specs::Layout::legal_counts))]
-fn is_legal(lower: u8, upper: u8) -> bool
-    ensures { result ≡ legal_counts lower upper }
-{
-    lower <= 15 && upper <= 15 && (lower == 0 || upper == 0 || lower + upper <= 14)
 }
 
 // What is left of a zone with `other` members when the other zone is given `members`.
@@ -222,12 +215,13 @@ impl MpeLayout {
         MpeLayout { lower, upper }.tested()
     }
 
-    // The layout is one that `new` accepts.
-    #[tactic(auto, unfolding(crate::specs::Layout::legal))]
+    // The layout is one that `new` accepts: a zone has at most 15 members, and two active zones at most 14 in all.
+    #[tactic(auto, unfolding(crate::specs::Layout::legal, crate::specs::Layout::legal_counts))]
     pub fn is_layout(self) -> bool
         ensures { result ≡ legal self }
     {
-        is_legal(self.lower, self.upper)
+        let MpeLayout { lower, upper } = self;
+        lower <= 15 && upper <= 15 && (lower == 0 || upper == 0 || lower + upper <= 14)
     }
 
     // The layout, if `new` accepts it.
@@ -302,8 +296,8 @@ impl MpeLayout {
         }
     }
 
-    // The role of a channel by comparisons, for the byte calls: each message asks for one, and `role` in this place would take the lent call to 1.7 to
-    // 2.7 times its instructions (docs/BENCHMARKS.md).
+    // The role of a channel by comparisons, for the byte calls: each message asks for one. With `role` in this place the lent call takes 1.5 to 1.9 times its
+    // instructions, and more than the Rust's, which is the bar that this keeps (docs/BENCHMARKS.md).
     pub fn role_compared(self, channel: u8) -> Result<MpeRole, OutOfRange>
         ensures { answered result ≡ role_given self channel }
     {
