@@ -5,9 +5,10 @@ use Rattle.ump.specs.Outcome.{Outcome, given, declined}
 use Rattle.ump.specs.Packet.{packet_value}
 use Rattle.mpe_layout.specs.declared.MpeLayout.{MpeLayout}
 use Rattle.mpe_layout.specs.declared.MpeZone.TheVariants.{Lower}
+use Rattle.mpe_layout.specs.Layout.{member_found}
 use Rattle.mpe_receiver.specs.Read.{offset_of}
 use Rattle.mpe_allocator.specs.declared.Allocation.{Allocation}
-use Rattle.mpe_allocator.specs.Allocator.{emptied, note_reply_read, allocation_of, without_note}
+use Rattle.mpe_allocator.specs.Allocator.{emptied, allocation_of, without_note}
 use Rattle.receiving_end.specs.declared.end.End.{End}
 use Rattle.bench_calls.specs.declared.Noted.{Noted}
 
@@ -34,7 +35,7 @@ abbrev pub fifteen : MpeLayout
 fifteen = record { lower = 15; upper = 0 }
 
 abbrev pub begun : Noted → Allocation → Noted
-begun n on = record { allocator = on.allocator; sum = added n.sum (channel_in (note_reply_read on.reply)) }
+begun n on = record { allocator = on.allocator; sum = added n.sum (channel_in (member_found on.reply)) }
 
 abbrev pub ended : Noted → ℕ → Noted
 ended n c = record { allocator = without_note n.allocator (packet_value c); sum = n.sum }
