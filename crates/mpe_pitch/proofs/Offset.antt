@@ -1,4 +1,4 @@
--- Bounds on pitch offsets.
+-- An offset is the nearest integer and no other is, nothing lies halfway, it never falls as the bend rises, and its bounds.
 -- Assumes nothing.
 use mathlib.Core.Path.{◌≡◌}
 use Prim.Native.Nat.{ℕ}
@@ -11,8 +11,20 @@ use mir.ValLaws.{to_z-of_z}
 use Rattle.std.proofs.lemmas.Grind.{common_steps}
 use Rattle.mpe_pitch.specs.declared.MpeSensitivity.{MpeSensitivity}
 use Rattle.mpe_pitch.specs.Pitch.{pitch_offset}
-use Rattle.mpe_pitch.specs.Claims.{Within, OffsetWithin}
+use Rattle.mpe_pitch.specs.Remainder.{scaled}
+use Rattle.mpe_pitch.specs.Claims.{Within, NearestTo, OffsetNearest, NoTie, OffsetWithin, OffsetRises}
 use Rattle.mpe_pitch.proofs.Order.{sum, within-fits}
+
+pub offset-nearest : (value : ℕ) (s : MpeSensitivity) → OffsetNearest value s (pitch_offset value s)
+unfolding pitch_offset
+offset-nearest value s = (grind (arith, common_steps), λ (z : ℤ) (h : NearestTo (scaled value s) 8191 z). grind (arith, common_steps))
+
+pub no_tie : (value : ℕ) (s : MpeSensitivity) → NoTie value s
+no_tie value s = grind (arith, common_steps)
+
+pub offset-rises : (v : ℕ) (s : MpeSensitivity) → OffsetRises v s (pitch_offset v s)
+unfolding pitch_offset
+offset-rises v s = grind (arith, common_steps)
 
 pub offset-within : (value : ℕ) (s : MpeSensitivity) → OffsetWithin (pitch_offset value s)
 unfolding pitch_offset

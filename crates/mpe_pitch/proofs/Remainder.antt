@@ -16,10 +16,11 @@ use Rattle.ump.proofs.Cases.{by-test}
 use Rattle.mpe_pitch.specs.declared.MpeSensitivity.{MpeSensitivity}
 use Rattle.mpe_pitch.specs.declared.OffsetWithRemainder.{OffsetWithRemainder}
 use Rattle.mpe_pitch.specs.Pitch.{range_of, nearest, apart, offset_in, pitch_offset}
-use Rattle.mpe_pitch.specs.Remainder.{pitch_remainder, offset_with_remainder, sum_of}
-use Rattle.mpe_pitch.specs.Claims.{Within, Divided, IsPair}
+use Rattle.mpe_pitch.specs.Remainder.{scaled, pitch_remainder, offset_with_remainder, sum_of}
+use Rattle.mpe_pitch.specs.Claims.{Within, Divided, IsPair, OnlyPair}
 use Rattle.mpe_pitch.proofs.Order.{within-fits}
 use Rattle.mpe_pitch.proofs.Round.{parted}
+use Rattle.mpe_pitch.proofs.Offset.{offset-nearest}
 
 pub rest_of : (d m : ℕ) → d % 8191 * m % 8191 ≡ d * m % 8191
 rest_of d m = omega (arith, parted 8191 d m)
@@ -45,6 +46,13 @@ remainder_is value s = remainder-in (range_of s) (value % 2 ^ 14)
 pub is-pair : (value : ℕ) (s : MpeSensitivity) → IsPair value s (offset_with_remainder value s)
 unfolding pitch_remainder pitch_offset
 is-pair value s = grind (arith, common_steps)
+
+pub only-pair : (value : ℕ) (s : MpeSensitivity) → OnlyPair value s (offset_with_remainder value s)
+unfolding pitch_remainder pitch_offset
+only-pair value s q (divided, within) =
+    let o : q.offset ≡ pitch_offset value s = (offset-nearest value s).1 q.offset (omega (arith, ints)) in
+    let r : q.remainder ≡ scaled value s -ℤ pos 8191 *ℤ pitch_offset value s = omega (arith, ints) in
+    λ i. record { offset = o i; remainder = r i }
 
 -- the numerators of two pairs, and the pairs, are added
 pub divided-sum : (m n : ℤ) (p q : OffsetWithRemainder) → Divided m p → Divided n q → Divided (m +ℤ n) (sum_of p q)
