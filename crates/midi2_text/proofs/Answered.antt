@@ -17,6 +17,7 @@ use Rattle.translate_state.specs.State.{new_record}
 use Rattle.translate.specs.Translate.{translation_of, flush_reply}
 use Rattle.translate.specs.Lists.{TranslatorCall, translate_words, flush, translator_after, translator_after_all, Given, with_words}
 use Rattle.translate.proofs.Exact.{exactly-accepted}
+use Rattle.midi2_text.proofs.Words.{heard-more, flushed-more, none-heard, none-flushed, new-messages}
 use Rattle.midi2_text.specs.declared.cable.Cable.{Cable}
 use Rattle.midi2_text.specs.Cable.{new_cable, reply_words, reply_record, heard_reply, heard_cable, flushed_cable, cable_after, flushed_after, message_in, messages_read}
 
@@ -118,3 +119,6 @@ module _ (c : Cable) (new : c ≡ new_cable) (bs : List ℕ) where
 
   pub flush_answered : (ks : List ℕ) (k : ℕ) → Given (flush_reply (flushed_after (cable_after c bs) ks).translator 0 k)
   flush_answered ks k = rw new (flushed-answered bs ks k)
+
+-- what a cable promises of lists of bytes and of channels
+pub ruleset lists = (one_more, none_after, one-flush-more, no-flush-after, heard-more, none-heard, flushed-more, none-flushed, new-messages, byte-answered, flush_answered)

@@ -53,6 +53,7 @@ fn of_parts(end: End, translated: Translated) -> Heard
 impl Cable {
     // A new end and a new translator. The words of its bytes are those of the messages that the end reads, and after whatever bytes no byte is declined,
     // and no flush, whatever channels were flushed before it.
+    #[tactic(auto, using(crate::proofs::Answered::lists))]
     pub fn new() -> Cable
         ensures is { result ≡ new_cable }
         ensures messages { (bytes : List ℕ) → heard_words result bytes ≡ words_of (messages_read new_end bytes) }
@@ -65,6 +66,7 @@ impl Cable {
     }
 
     // The byte call, and the translation of the message that the byte completes.
+    #[tactic(auto, using(crate::proofs::Answered::lists))]
     pub fn hear(self, byte: u8) -> Heard
         ensures reply { translation_read result.reply ≡ heard_reply self byte }
         ensures cable { result.cable ≡ heard_cable self byte }
@@ -76,6 +78,7 @@ impl Cable {
     }
 
     // Sends the pending entry of a channel, in group 0.
+    #[tactic(auto, using(crate::proofs::Answered::lists))]
     pub fn flush(self, channel: u8) -> Heard
         ensures reply { translation_read result.reply ≡ flush_reply self.translator 0 channel }
         ensures cable { result.cable ≡ flushed_cable self channel }

@@ -29,6 +29,7 @@ fn max_value(bits: u8) -> u32
 }
 
 // From 1 bit or more to more bits, at most 32, and the value has the source's bits.
+// Value and widths stay three numbers: two private functions ask for what this finds, and each clause would take a struct of them apart again.
 #[tactic(auto, unfolding(crate::specs::Scale::widens))]
 fn can_upscale(value: u32, src_bits: u8, dst_bits: u8) -> bool
     ensures is { result ≡ widens src_bits dst_bits value }

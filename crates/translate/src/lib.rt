@@ -83,6 +83,7 @@ fn joined_value(msb: u8, lsb: u8) -> u32
 }
 
 // The data of a Registered or Assignable Controller.
+// Values of 14 and of 7 bits stay numbers with a `requires`: types of their own would be taken apart in each clause, since the definitions are of numbers.
 fn controller_data(opcode: Opcode, index: u8, value: u32) -> u32
     requires { value < 2 ^ 14 }
     ensures { result ≡ controller_data (opcode_number opcode) index value }
