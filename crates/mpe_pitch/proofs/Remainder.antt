@@ -1,9 +1,10 @@
 -- An offset's remainder: what it is by the sign, its bounds, and the pair of both.
 -- Assumes nothing.
 use mathlib.Core.Path.{◌≡◌}
-use Prim.Native.Nat.{ℕ, suc, ◌-◌, ◌*◌, ◌%◌, ◌^◌}
+use Prim.Native.Nat.{ℕ, ◌-◌, ◌*◌, ◌%◌, ◌^◌, ◌<◌}
+use mathlib.Core.Bool.{Bool, true, false}
 use native.Mathlib.Omega.{arith}
-use borrow.Author.Tests.{ltb-true, ltb-false}
+use borrow.Author.Tests.{lt-ltb}
 use lib.Dec.{ltb, lit<, lit≤}
 use lib.IntN.{ℤ, pos, neg_ℤ, ◌+ℤ◌, ◌-ℤ◌, ◌*ℤ◌}
 use mir.Syntax.{w32}
@@ -12,36 +13,38 @@ use mir.ValLaws.{to_z-of_z}
 use Rattle.std.proofs.lemmas.Int.{ints}
 use Rattle.std.proofs.lemmas.Grind.{common_steps}
 use Rattle.ump.specs.Choice.{when◌then◌else◌}
-use Rattle.ump.proofs.Cases.{by-test}
 use Rattle.mpe_pitch.specs.declared.MpeSensitivity.{MpeSensitivity}
 use Rattle.mpe_pitch.specs.declared.OffsetWithRemainder.{OffsetWithRemainder}
-use Rattle.mpe_pitch.specs.Pitch.{range_of, nearest, apart, offset_in, pitch_offset}
+use Rattle.mpe_pitch.specs.Pitch.{range_of, nearest, apart, pitch_offset}
 use Rattle.mpe_pitch.specs.Remainder.{scaled, pitch_remainder, offset_with_remainder, sum_of}
 use Rattle.mpe_pitch.specs.Claims.{Within, Divided, IsPair, OnlyPair}
 use Rattle.mpe_pitch.proofs.Order.{within-fits}
+use Rattle.mpe_pitch.proofs.Offset.{turn, exact, offset-nearest}
 use Rattle.mpe_pitch.proofs.Round.{parted}
-use Rattle.mpe_pitch.proofs.Offset.{offset-nearest}
 
 pub rest_of : (d m : ℕ) → d % 8191 * m % 8191 ≡ d * m % 8191
 rest_of d m = omega (arith, parted 8191 d m)
 
 -- what n has over the nearest multiple of 8191
-abbrev over : ℕ → ℤ
+abbrev pub over : ℕ → ℤ
 over n = pos n -ℤ pos (8191 * nearest n 8191)
 
-remainder-in : (d v : ℕ) → pos d *ℤ (pos v -ℤ pos 8192) -ℤ pos 8191 *ℤ offset_in d v ≡ (when ltb v 8192 then neg_ℤ (over (d * apart v 8192)) else over (d * apart v 8192))
-remainder-in d v =
-    by-test (ltb v 8192)
-    (λ t. let h = ltb-true v 8192 t in
-    let e : suc (8192 - suc v) ≡ apart v 8192 = omega arith in
-    rw (t, e) (omega (arith, ints)))
-    (λ t. let h = ltb-false v 8192 t in
-    let e : 8192 - v ≡ 0 = omega arith in
-    rw (t, e) (omega (arith, ints)))
+turned-over : (b : Bool) (n : ℕ) → turn b n -ℤ pos 8191 *ℤ turn b (nearest n 8191) ≡ (when b then neg_ℤ (over n) else over n)
+turned-over true n = omega (arith, ints)
+turned-over false n = omega (arith, ints)
 
 pub remainder_is : (value : ℕ) (s : MpeSensitivity) → pitch_remainder value s ≡ (when ltb (value % 2 ^ 14) 8192 then neg_ℤ (over (range_of s * apart (value % 2 ^ 14) 8192)) else over (range_of s * apart (value % 2 ^ 14) 8192))
 unfolding pitch_remainder pitch_offset
-remainder_is value s = remainder-in (range_of s) (value % 2 ^ 14)
+remainder_is value s =
+    let v = value % 2 ^ 14 in
+    rw (exact (range_of s) v) (turned-over (ltb v 8192) (range_of s * apart v 8192))
+
+-- by the magnitude d times m
+pub remainder_below : (value : ℕ) (s : MpeSensitivity) (d m : ℕ) → value % 2 ^ 14 < 8192 → d ≡ range_of s → m ≡ 8192 - value % 2 ^ 14 → pitch_remainder value s ≡ neg_ℤ (over (d * m))
+remainder_below value s d m h e f =
+    let v = value % 2 ^ 14 in
+    let g : apart v 8192 ≡ 8192 - v = omega arith in
+    rw (remainder_is value s, lt-ltb v 8192 h, e, f, g)
 
 pub is-pair : (value : ℕ) (s : MpeSensitivity) → IsPair value s (offset_with_remainder value s)
 unfolding pitch_remainder pitch_offset
