@@ -3,7 +3,7 @@
 
 ghost use Rattle.std.specs.Prelude.{◌≡◌, map, ◌<◌};
 ghost use Rattle.receiving_end.specs.End.{message_at, message_step, answer_step, step_reply, step_end};
-ghost use Rattle.receiving_end.specs.Lists.{byte_by_value, byte_lent, replied, answer, next, after, after_bytes};
+ghost use Rattle.receiving_end.specs.Lists.{byte_by_value, byte_lent, replied, CallGives, after, after_bytes};
 
 use byte_reader::{Read, ReadStep, Reader};
 use mpe_event::MpeEvent;
@@ -52,7 +52,8 @@ fn answer(end: End, reader: Reader, read: Read) -> Stepped
 // The byte call, by value.
 #[tactic(auto, unfolding(receiving_end::specs::End::step_of))]
 pub fn step(end: End, b: u8) -> Stepped
-    ensures { ((result.reply ≡ step_reply end b) × (result.end ≡ step_end end b)) × ((answer end (byte_by_value b) ≡ replied result.reply) × (next end (byte_by_value b) ≡ result.end)) }
+    ensures is { (result.reply ≡ step_reply end b) × (result.end ≡ step_end end b) }
+    ensures call { CallGives end (byte_by_value b) (replied result.reply) result.end }
 {
     let ReadStep { reader, read } = end.reader.step(b);
     answer(end, reader, read)
@@ -60,7 +61,8 @@ pub fn step(end: End, b: u8) -> Stepped
 
 // The byte call on a lent end: the end is taken apart, and what `step` makes of it is put in its place.
 pub fn byte(end: &mut End, b: u8) -> Reply
-    ensures { ((result ≡ step_reply end.old b) × (end.new ≡ step_end end.old b)) × ((answer end.old (byte_lent b) ≡ replied result) × (next end.old (byte_lent b) ≡ end.new)) }
+    ensures is { (result ≡ step_reply end.old b) × (end.new ≡ step_end end.old b) }
+    ensures call { CallGives end.old (byte_lent b) (replied result) end.new }
 {
     let Stepped { end: after, reply } = step(*end, b);
     *end = after;

@@ -39,7 +39,6 @@ use Rattle.receiving_end.specs.declared.end.Reply.{Reply}
 use Rattle.receiving_end.specs.declared.end.Reply.TheVariants.{Message}
 use Rattle.receiving_end.specs.declared.end.Stepped.{Stepped}
 use Rattle.receiving_end.specs.End.{blank_state, with_reader, with_receiver, with_parameter, parameter_at, parameter_event_at, stepped, message_at, message_step, answer_step, step_of, step_reply, step_end}
-use Rattle.receiving_end.specs.Lists.{answer, next, byte_lent, replied}
 use Rattle.lent_end.specs.Lent.{event_on_member, event_by_role, event_reply, settles_with, settled_end, settled_reply, control_end, control_reply, brightness_end, changed_end, changed_reply, stored_end, message_end, message_reply, read_end, read_reply}
 use Rattle.lent_end.proofs.Words.{Formed, Fine, read-fine}
 
@@ -239,16 +238,11 @@ read-step e r read.Dropped f = refl
 read-step e r (read.RealTime b) f = refl
 read-step e r (read.Message w) f = word-step (with_reader e r) w (f w refl)
 
--- what the byte call promises of the reply and of the end: by the byte step, and by the list of calls
-abbrev pub Promised : End → ℕ → Reply → End → Type 0
-Promised e b r x = ((r ≡ step_reply e b) × (x ≡ step_end e b)) × ((answer e (byte_lent b) ≡ replied r) × (next e (byte_lent b) ≡ x))
-
+-- what the lent call makes of a byte is the byte step
 pub lent-is-step : (e : End) (b : ℕ) (s : ReadStep) → s ≡ read_step e.reader b → e.reader.status < 2 ^ 8
-    → {r : Reply} {x : End} → (r ≡ read_reply (with_reader e s.reader) s.read) × (x ≡ read_end (with_reader e s.reader) s.read) → Promised e b r x
+    → {r : Reply} {x : End} → (r ≡ read_reply (with_reader e s.reader) s.read) × (x ≡ read_end (with_reader e s.reader) s.read) → (r ≡ step_reply e b) × (x ≡ step_end e b)
 unfolding step_of
-lent-is-step e b s is h {r} {x} p =
+lent-is-step e b s is h p =
     let q = ap (λ t. stepped (read_end (with_reader e t.reader) t.read) (read_reply (with_reader e t.reader) t.read)) is
     ∙ read-step e (read_step e.reader b).reader (read_step e.reader b).read (read-fine e.reader b h) in
-    let reply : r ≡ step_reply e b = p.0 ∙ ap (λ t. t.reply) q in
-    let end : x ≡ step_end e b = p.1 ∙ ap (λ t. t.end) q in
-    ((reply, end), (ap replied (sym reply), sym end))
+    (p.0 ∙ ap (λ t. t.reply) q, p.1 ∙ ap (λ t. t.end) q)

@@ -3,7 +3,7 @@
 
 ghost use Rattle.std.specs.Prelude.{◌≡◌, ◌<◌, ◌^◌};
 ghost use Rattle.receiving_end.specs.End.{step_reply, step_end};
-ghost use Rattle.receiving_end.specs.Lists.{answer, next, byte_lent, replied};
+ghost use Rattle.receiving_end.specs.Lists.{CallGives, byte_lent, replied};
 ghost use Rattle.ump.specs.Word.{bend_of};
 ghost use Rattle.byte_reader.specs.Reader.{read_step};
 ghost use Rattle.lent_end.specs.Lent.{event_on_member, event_by_role, event_reply, settles_with, settled_end, settled_reply, updated_end, updated_reply, control_end, control_reply, brightness_end, stored_end, message_end, message_reply, read_end, read_reply};
@@ -164,7 +164,8 @@ fn read_byte(reader: Reader, b: u8) -> ReadStep
 
 // The byte call on a lent end, which is taken apart and altered where it stands.
 pub fn byte(end: &mut End, b: u8) -> Reply
-    ensures { ((result ≡ step_reply end.old b) × (end.new ≡ step_end end.old b)) × ((answer end.old (byte_lent b) ≡ replied result) × (next end.old (byte_lent b) ≡ end.new)) }
+    ensures is { (result ≡ step_reply end.old b) × (end.new ≡ step_end end.old b) }
+    ensures call { CallGives end.old (byte_lent b) (replied result) end.new }
 {
     let ReadStep { reader, read } = read_byte(end.reader, b);
     end.reader = reader;
@@ -173,7 +174,8 @@ pub fn byte(end: &mut End, b: u8) -> Reply
 
 // The lent call from values to a value.
 pub fn byte_of(e: End, b: u8) -> Stepped
-    ensures { ((result.reply ≡ step_reply e b) × (result.end ≡ step_end e b)) × ((answer e (byte_lent b) ≡ replied result.reply) × (next e (byte_lent b) ≡ result.end)) }
+    ensures is { (result.reply ≡ step_reply e b) × (result.end ≡ step_end e b) }
+    ensures call { CallGives e (byte_lent b) (replied result.reply) result.end }
 {
     let mut end = e;
     let reply = byte(&mut end, b);

@@ -1,5 +1,5 @@
 -- Lists of calls on one end, and their answers (document 01, "Demand 3 in detail").
-use Rattle.std.specs.Prelude.{ℕ, Bool, List, [], ◌∷◌, ℤ, Option}
+use Rattle.std.specs.Prelude.{ℕ, ◌≡◌, Bool, List, [], ◌∷◌, ℤ, Option}
 use Rattle.ump.specs.Outcome.{Outcome}
 use Rattle.ump.specs.Packet.{packet_value}
 use Rattle.parameter_event.specs.declared.Parameter.{Parameter}
@@ -76,6 +76,10 @@ next e (pitch_offset_with_remainder channel) = e
 next e (selection channel) = e
 next e (rpn_reception channel) = e
 next e (nrpn_reception channel) = e
+
+-- the call c on the end e gives the answer a, and the end after it is n
+abbrev pub CallGives : End → Call → Answer → End → Type 0
+CallGives e c a n = (a ≡ answer e c) × (n ≡ next e c)
 
 -- the end after a list of calls, each made on the end that the last one left
 unfoldable pub after : End → List Call → End

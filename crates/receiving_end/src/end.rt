@@ -7,7 +7,7 @@ ghost use Rattle.mpe_pitch.specs.Claims.{Within};
 ghost use Rattle.mpe_receiver.specs.Receive.{set_reply};
 ghost use Rattle.mpe_receiver.specs.Read.{mode_of, sensitivity_of, bend_at, pressure_at, brightness_at, offset_of, pair_of};
 ghost use Rattle.mpe_receiver.specs.Ratio.{RatioByRole};
-ghost use Rattle.receiving_end.specs.Lists.{set_layout, set_rpn_reception, set_nrpn_reception, layout, mode, sensitivity, pitch_bend, pressure, brightness, pitch_offset, pitch_offset_with_remainder, selection, rpn_reception, nrpn_reception, masked, done, laid_out, counted, ranged, offset, paired, selected, switched, answer, next};
+ghost use Rattle.receiving_end.specs.Lists.{set_layout, set_rpn_reception, set_nrpn_reception, layout, mode, sensitivity, pitch_bend, pressure, brightness, pitch_offset, pitch_offset_with_remainder, selection, rpn_reception, nrpn_reception, masked, done, laid_out, counted, ranged, offset, paired, selected, switched, CallGives};
 ghost use Rattle.receiving_end.specs.WellFormed.{AlwaysFormed};
 ghost use Rattle.receiving_end.specs.Ratio.{AlwaysRatio};
 ghost use Rattle.receiving_end.specs.System.{SystemBytes};
@@ -32,7 +32,7 @@ pub struct End {
 }
 
 // What a byte gets.
-#[derive(Clone, Copy)]
+#[derive(Clone, Copy, Debug, PartialEq, Eq)]
 pub enum Reply {
     Quiet,
     Dropped,
@@ -88,7 +88,7 @@ impl End {
     // A layout that the application sets.
     pub fn set_layout(self, layout: MpeLayout) -> LayoutSet
         ensures is { (answered result.reply ≡ set_reply self.receiver layout) × (result.end ≡ laid_out_end self layout) }
-        ensures call { (masked (answered result.reply) ≡ answer self (set_layout layout)) × (result.end ≡ next self (set_layout layout)) }
+        ensures call { CallGives self (set_layout layout) (masked (answered result.reply)) result.end }
     {
         let mpe_receiver::LayoutSet { receiver, reply } = self.receiver.set_layout(layout);
         LayoutSet {
@@ -100,7 +100,7 @@ impl End {
     // Turns a channel's RPN reception on or off.
     pub fn set_rpn_reception(self, channel: u8, on: bool) -> End
         ensures is { result ≡ rpn_switched_at self channel on }
-        ensures call { (done ≡ answer self (set_rpn_reception channel on)) × (result ≡ next self (set_rpn_reception channel on)) }
+        ensures call { CallGives self (set_rpn_reception channel on) done result }
     {
         self.with_parameter(channel, self.parameter(channel).set_rpn_reception(on))
     }
@@ -108,21 +108,21 @@ impl End {
     // Turns a channel's NRPN reception on or off.
     pub fn set_nrpn_reception(self, channel: u8, on: bool) -> End
         ensures is { result ≡ nrpn_switched_at self channel on }
-        ensures call { (done ≡ answer self (set_nrpn_reception channel on)) × (result ≡ next self (set_nrpn_reception channel on)) }
+        ensures call { CallGives self (set_nrpn_reception channel on) done result }
     {
         self.with_parameter(channel, self.parameter(channel).set_nrpn_reception(on))
     }
 
     pub fn rpn_reception(self, channel: u8) -> bool
         ensures is { result ≡ (parameter_at self (packet_value channel)).rpn_on }
-        ensures call { (switched result ≡ answer self (rpn_reception channel)) × (self ≡ next self (rpn_reception channel)) }
+        ensures call { CallGives self (rpn_reception channel) (switched result) self }
     {
         self.parameter(channel).rpn_reception()
     }
 
     pub fn nrpn_reception(self, channel: u8) -> bool
         ensures is { result ≡ (parameter_at self (packet_value channel)).nrpn_on }
-        ensures call { (switched result ≡ answer self (nrpn_reception channel)) × (self ≡ next self (nrpn_reception channel)) }
+        ensures call { CallGives self (nrpn_reception channel) (switched result) self }
     {
         self.parameter(channel).nrpn_reception()
     }
@@ -130,14 +130,14 @@ impl End {
     // The parameter that a data entry on the channel acts on now.
     pub fn selection(self, channel: u8) -> Option<Parameter>
         ensures is { result ≡ selection_of (parameter_at self (packet_value channel)) }
-        ensures call { (selected result ≡ answer self (selection channel)) × (self ≡ next self (selection channel)) }
+        ensures call { CallGives self (selection channel) (selected result) self }
     {
         self.parameter(channel).selection()
     }
 
     pub fn layout(self) -> MpeLayout
         ensures is { result ≡ self.receiver.layout }
-        ensures call { (laid_out result ≡ answer self layout) × (self ≡ next self layout) }
+        ensures call { CallGives self layout (laid_out result) self }
     {
         self.receiver.layout()
     }
@@ -145,7 +145,7 @@ impl End {
     // The mode of a zone: 3 or 4.
     pub fn mode(self, zone: MpeZone) -> u8
         ensures is { result ≡ mode_of self.receiver zone }
-        ensures call { (counted result ≡ answer self (mode zone)) × (self ≡ next self (mode zone)) }
+        ensures call { CallGives self (mode zone) (counted result) self }
     {
         self.receiver.mode(zone)
     }
@@ -153,28 +153,28 @@ impl End {
     // The manager's or the members' sensitivity of a zone.
     pub fn sensitivity(self, zone: MpeZone, manager: bool) -> MpeSensitivity
         ensures is { result ≡ sensitivity_of self.receiver zone manager }
-        ensures call { (ranged result ≡ answer self (sensitivity zone manager)) × (self ≡ next self (sensitivity zone manager)) }
+        ensures call { CallGives self (sensitivity zone manager) (ranged result) self }
     {
         self.receiver.sensitivity(zone, manager)
     }
 
     pub fn pitch_bend(self, channel: u8) -> u16
         ensures is { result ≡ bend_at self.receiver channel }
-        ensures call { (counted result ≡ answer self (pitch_bend channel)) × (self ≡ next self (pitch_bend channel)) }
+        ensures call { CallGives self (pitch_bend channel) (counted result) self }
     {
         self.receiver.pitch_bend(channel)
     }
 
     pub fn pressure(self, channel: u8) -> u8
         ensures is { result ≡ pressure_at self.receiver channel }
-        ensures call { (counted result ≡ answer self (pressure channel)) × (self ≡ next self (pressure channel)) }
+        ensures call { CallGives self (pressure channel) (counted result) self }
     {
         self.receiver.pressure(channel)
     }
 
     pub fn brightness(self, channel: u8) -> u8
         ensures is { result ≡ brightness_at self.receiver channel }
-        ensures call { (counted result ≡ answer self (brightness channel)) × (self ≡ next self (brightness channel)) }
+        ensures call { CallGives self (brightness channel) (counted result) self }
     {
         self.receiver.brightness(channel)
     }
@@ -182,7 +182,7 @@ impl End {
     // The channel's offset in hundredths of a cent, from -2,565,714 to 2,565,400.
     pub fn pitch_offset(self, channel: u8) -> Option<i32>
         ensures is { found result ≡ offset_of self.receiver channel }
-        ensures call { (offset (found result) ≡ answer self (pitch_offset channel)) × (self ≡ next self (pitch_offset channel)) }
+        ensures call { CallGives self (pitch_offset channel) (offset (found result)) self }
         ensures within { (z : ℤ) → found result ≡ given z → Within 2565714 2565400 z }
     {
         self.receiver.pitch_offset(channel)
@@ -191,7 +191,7 @@ impl End {
     // The channel's offset with its remainder, from -8,190 to 8,190.
     pub fn pitch_offset_with_remainder(self, channel: u8) -> Option<OffsetWithRemainder>
         ensures is { found result ≡ pair_of self.receiver channel }
-        ensures call { (paired (found result) ≡ answer self (pitch_offset_with_remainder channel)) × (self ≡ next self (pitch_offset_with_remainder channel)) }
+        ensures call { CallGives self (pitch_offset_with_remainder channel) (paired (found result)) self }
         ensures ratio { RatioByRole self.receiver channel (found result) }
     {
         self.receiver.pitch_offset_with_remainder(channel)
