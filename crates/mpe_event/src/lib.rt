@@ -3,7 +3,8 @@
 
 ghost use Rattle.std.specs.Prelude.{◌≡◌};
 ghost use Rattle.ump.specs.Outcome.{answered};
-ghost use Rattle.mpe_event.specs.Update.{decoded, zones_update, announced, configured, announced_on, sensitivity_update, is_lowest_in, on_member, plain_event, mode_set, message_update, zones_reply, zones_after, reset_in};
+ghost use Rattle.ump.specs.Word.{opcode_of, channel_of, first_of};
+ghost use Rattle.mpe_event.specs.Update.{decoded, zones_update, announced, configured, announced_on, sensitivity_update, is_lowest_in, on_member, plain_event, mode_set, word_update, zones_reply, zones_after, reset_in};
 ghost use Rattle.mpe_zones.specs.Zones.{mono_of};
 ghost use Rattle.mpe_event.specs.Claims.{ReceiverCases};
 
@@ -150,13 +151,13 @@ fn is_lowest_in(zones: Zones, zone: MpeZone, channel: u8) -> bool
 // A message on a member. Poly pressure is prohibited, program change and bank select are for mode 4 (mono), and controllers 126 and 127 set the mode on the
 // lowest member.
 #[tactic(auto, unfolding(crate::specs::Update::on_member))]
-fn event_on_member(zones: Zones, zone: MpeZone, opcode: u8, channel: u8, first: u8) -> MpeEvent
-    ensures { result ≡ on_member zone (mono_of zones zone) (is_lowest_in zones zone channel) opcode first }
+fn event_on_member(zones: Zones, zone: MpeZone, word: u32) -> MpeEvent
+    ensures { result ≡ on_member zone (mono_of zones zone) (is_lowest_in zones zone (channel_of word)) (opcode_of word) (first_of word) }
 {
-    match (opcode, first) {
+    match (opcode(word), first_data(word)) {
         (0xA, _) => MpeEvent::Ignored,
         (0xC, _) | (0xB, 0 | 32) if !zones.is_mono(zone) => MpeEvent::Ignored,
-        (0xB, 126 | 127) if is_lowest_in(zones, zone, channel) => MpeEvent::Mode { zone },
+        (0xB, 126 | 127) if is_lowest_in(zones, zone, channel(word)) => MpeEvent::Mode { zone },
         _ => MpeEvent::Zone {
             zone,
             manager: false,
@@ -165,8 +166,8 @@ fn event_on_member(zones: Zones, zone: MpeZone, opcode: u8, channel: u8, first: 
 }
 
 // A message by its channel's role, where no parameter event decides.
-fn event_by_role(zones: Zones, role: MpeRole, opcode: u8, channel: u8, first: u8) -> MpeEvent
-    ensures { result ≡ plain_event zones channel role opcode first }
+fn event_by_role(zones: Zones, role: MpeRole, word: u32) -> MpeEvent
+    ensures { result ≡ plain_event zones (channel_of word) role (opcode_of word) (first_of word) }
 {
     match role {
         MpeRole::NoZone => MpeEvent::NoZone,
@@ -174,7 +175,7 @@ fn event_by_role(zones: Zones, role: MpeRole, opcode: u8, channel: u8, first: u8
             zone,
             manager: true,
         },
-        MpeRole::Member(zone) => event_on_member(zones, zone, opcode, channel, first),
+        MpeRole::Member(zone) => event_on_member(zones, zone, word),
     }
 }
 
@@ -189,23 +190,17 @@ fn plain_update(zones: Zones, event: MpeEvent, first: u8) -> ZonesUpdate
     ZonesUpdate { zones, event }
 }
 
-// The zones after a message whose fields are cut, with the event that its channel's parameters gave for it.
-fn update(
-    zones: Zones,
-    parameter: Option<ParameterEvent>,
-    opcode: u8,
-    channel: u8,
-    first: u8,
-) -> ZonesUpdate
-    ensures { result ≡ message_update zones parameter opcode channel first }
+// The zones after a message, with the event that its channel's parameters gave for it.
+fn update(zones: Zones, parameter: Option<ParameterEvent>, word: u32) -> ZonesUpdate
+    ensures { result ≡ word_update zones parameter word }
 {
-    let role = zones.role(channel);
-    match decode(opcode, parameter) {
-        Decoded::Configuration(change) => mcm(zones, channel, change),
+    let role = zones.role(channel(word));
+    match decode(opcode(word), parameter) {
+        Decoded::Configuration(change) => mcm(zones, channel(word), change),
         Decoded::BendSensitivity(change) => sensitivity_update(zones, role, change),
         Decoded::Nothing => {
-            let event = event_by_role(zones, role, opcode, channel, first);
-            plain_update(zones, event, first)
+            let event = event_by_role(zones, role, word);
+            plain_update(zones, event, first_data(word))
         }
     }
 }
@@ -223,13 +218,7 @@ pub fn receive(zones: Zones, word: u32, parameter: Option<ParameterEvent>) -> Zo
             reply: Err(OutOfRange),
         };
     }
-    let ZonesUpdate { zones, event } = update(
-        zones,
-        parameter,
-        opcode(word),
-        channel(word),
-        first_data(word),
-    );
+    let ZonesUpdate { zones, event } = update(zones, parameter, word);
     ZonesReceived {
         zones,
         reply: Ok(event),

@@ -1,10 +1,9 @@
 -- What the channels read after a change of layout, and after a message (document 01, "The receiver").
-use Rattle.std.specs.Prelude.{ℕ, ◌+◌, ◌*◌, ◌^◌, ◌≡◌, true, false, ◌≢◌}
+use Rattle.std.specs.Prelude.{ℕ, ◌+◌, ◌*◌, ◌^◌, ◌≡◌, true, false, ◌≢◌, Option}
 use Rattle.ump.specs.Choice.{when◌then◌else◌}
 use Rattle.ump.specs.Outcome.{given}
 use Rattle.ump.specs.Packet.{packet_value}
 use Rattle.ump.specs.Word.{opcode_of, channel_of, first_of, second_of, word_form}
-use Rattle.std.specs.Prelude.{Option}
 use Rattle.parameter_event.specs.declared.ParameterEvent.{ParameterEvent}
 use Rattle.mpe_layout.specs.declared.MpeLayout.{MpeLayout}
 use Rattle.mpe_layout.specs.Layout.{legal}

@@ -1,9 +1,8 @@
 -- What a message does to a receiver (document 01, "The receiver"; M1-100 2.2 and 2.3): it is stored, the zones are updated, and the channels that its event names are put to rest.
-use Rattle.std.specs.Prelude.{ℕ, zero, suc, ◌+◌, ◌*◌, Bool, List, set, eqb}
+use Rattle.std.specs.Prelude.{ℕ, zero, suc, ◌+◌, ◌*◌, Bool, List, set, eqb, Option}
 use Rattle.ump.specs.Choice.{when◌then◌else◌}
 use Rattle.ump.specs.Outcome.{Outcome, given, out_of_range}
 use Rattle.ump.specs.Word.{opcode_of, channel_of, first_of, second_of, word_form}
-use Rattle.std.specs.Prelude.{Option}
 use Rattle.parameter_event.specs.declared.ParameterEvent.{ParameterEvent}
 use Rattle.mpe_layout.specs.declared.MpeLayout.{MpeLayout}
 use Rattle.mpe_layout.specs.Layout.{legal}
