@@ -2,3 +2,4 @@
 pub mod Digits
 pub mod Columns
 pub mod Lines
+pub mod Texts

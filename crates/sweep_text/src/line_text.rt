@@ -32,6 +32,7 @@ impl LineText {
     }
 
     // The text after one more byte.
+    #[tactic(auto, using(crate::proofs::Texts::rest_before))]
     pub(crate) fn after(self, byte: u8) -> LineText
         requires { 1 ≤ self.from }
         ensures { (text_of result ≡ byte ∷ text_of self) × (result.from + 1 ≡ self.from) }
