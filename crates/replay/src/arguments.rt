@@ -1,87 +1,139 @@
-// The arguments of an item, from its bytes.
-use mpe_layout::MpeZone;
-use parameter_event::{Parameter, ParameterChange};
+// An item's operation and its arguments, which are taken one after the other.
+use mpe_layout::{MpeLayout, MpeZone};
+use mpe_pitch::MpeSensitivity;
+use parameter_event::{Parameter, ParameterChange, ParameterEvent};
+use settings::{Settings, ZoneSettings};
 use ump::controller::Rpn;
 
-// An item's operation and its first ten bytes of arguments: all that an item has but for a settings record and a file.
+// The operation, and the bytes that are not taken yet.
 #[derive(Clone, Copy)]
-pub(crate) struct Item {
+pub(crate) struct Item<'a> {
     pub(crate) operation: u8,
-    pub(crate) a1: u8,
-    pub(crate) a2: u8,
-    pub(crate) a3: u8,
-    pub(crate) a4: u8,
-    pub(crate) a5: u8,
-    pub(crate) a6: u8,
-    pub(crate) a7: u8,
-    pub(crate) a8: u8,
-    pub(crate) a9: u8,
-    pub(crate) a10: u8,
+    rest: &'a [u8],
 }
 
-impl Item {
-    // The item of these bytes.
-    pub(crate) fn of(bytes: &[u8; 515]) -> Item {
-        Item {
-            operation: bytes[0],
-            a1: bytes[1],
-            a2: bytes[2],
-            a3: bytes[3],
-            a4: bytes[4],
-            a5: bytes[5],
-            a6: bytes[6],
-            a7: bytes[7],
-            a8: bytes[8],
-            a9: bytes[9],
-            a10: bytes[10],
+impl<'a> Item<'a> {
+    pub(crate) fn of(bytes: &'a [u8]) -> Item<'a> {
+        let mut item = Item {
+            operation: 0,
+            rest: bytes,
+        };
+        item.operation = item.byte();
+        item
+    }
+
+    // The next N bytes; zeros where fewer are left, to which no whole item comes.
+    fn next<const N: usize>(&mut self) -> [u8; N] {
+        match self.rest.split_first_chunk() {
+            Some((next, rest)) => {
+                self.rest = rest;
+                *next
+            }
+            None => [0; N],
         }
     }
-}
 
-// Two bytes, highest first.
-pub(crate) fn two(a: u8, b: u8) -> u16 {
-    (a as u16) << 8 | (b as u16)
-}
+    // The next n bytes, or those that are left.
+    pub(crate) fn bytes(&mut self, n: usize) -> &'a [u8] {
+        let (next, rest) = self.rest.split_at(n.min(self.rest.len()));
+        self.rest = rest;
+        next
+    }
 
-// Four bytes, highest first.
-pub(crate) fn four(a: u8, b: u8, c: u8, d: u8) -> u32 {
-    (a as u32) << 24 | (b as u32) << 16 | (c as u32) << 8 | (d as u32)
-}
+    pub(crate) fn byte(&mut self) -> u8 {
+        let [byte]: [u8; 1] = self.next();
+        byte
+    }
 
-// Four bytes, highest first, as a signed number.
-pub(crate) fn signed(a: u8, b: u8, c: u8, d: u8) -> i32 {
-    (a as i32) << 24 | (b as i32) << 16 | (c as i32) << 8 | (d as i32)
-}
+    // 0 is false, anything else true.
+    pub(crate) fn flag(&mut self) -> bool {
+        self.byte() != 0
+    }
 
-// A zone: 0 is Lower, anything else Upper.
-pub(crate) fn zone(byte: u8) -> MpeZone {
-    if byte == 0 {
-        return MpeZone::Lower;
+    // Two bytes, highest first.
+    pub(crate) fn two(&mut self) -> u16 {
+        u16::from_be_bytes(self.next())
     }
-    MpeZone::Upper
-}
 
-// P, a parameter.
-pub(crate) fn parameter(kind: u8, msb: u8, lsb: u8) -> Parameter {
-    if kind == 0 {
-        return Parameter::Registered(Rpn::from_parts(msb, lsb));
+    // Four bytes, highest first.
+    pub(crate) fn four(&mut self) -> u32 {
+        u32::from_be_bytes(self.next())
     }
-    if kind == 1 {
-        return Parameter::NonRegistered { msb, lsb };
-    }
-    Parameter::Registered(Rpn::Other { msb, lsb })
-}
 
-// C, a change.
-pub(crate) fn change(kind: u8, byte: u8) -> ParameterChange {
-    if kind == 0 {
-        return ParameterChange::DataEntryMsb(byte);
+    // Four bytes, highest first, as a signed number.
+    pub(crate) fn signed(&mut self) -> i32 {
+        i32::from_be_bytes(self.next())
     }
-    if kind == 1 {
-        return ParameterChange::DataEntryLsb(byte);
+
+    // 0 is Lower, anything else Upper.
+    pub(crate) fn zone(&mut self) -> MpeZone {
+        match self.byte() {
+            0 => MpeZone::Lower,
+            _ => MpeZone::Upper,
+        }
     }
-    if kind == 2 {
-        return ParameterChange::Increment;
+
+    // The two member counts of a layout.
+    pub(crate) fn layout(&mut self) -> MpeLayout {
+        let [lower, upper]: [u8; 2] = self.next();
+        MpeLayout { lower, upper }
     }
-    ParameterChange::Decrement
+
+    // Semitones and cents.
+    pub(crate) fn sensitivity(&mut self) -> MpeSensitivity {
+        let [semitones, cents]: [u8; 2] = self.next();
+        MpeSensitivity { semitones, cents }
+    }
+
+    // P, a parameter.
+    pub(crate) fn parameter(&mut self) -> Parameter {
+        let [kind, msb, lsb]: [u8; 3] = self.next();
+        match kind {
+            0 => Parameter::Registered(Rpn::from_parts(msb, lsb)),
+            1 => Parameter::NonRegistered { msb, lsb },
+            _ => Parameter::Registered(Rpn::Other { msb, lsb }),
+        }
+    }
+
+    // C, a change.
+    pub(crate) fn change(&mut self) -> ParameterChange {
+        let [kind, byte]: [u8; 2] = self.next();
+        match kind {
+            0 => ParameterChange::DataEntryMsb(byte),
+            1 => ParameterChange::DataEntryLsb(byte),
+            2 => ParameterChange::Increment,
+            _ => ParameterChange::Decrement,
+        }
+    }
+
+    // P C, an event.
+    pub(crate) fn event(&mut self) -> ParameterEvent {
+        ParameterEvent {
+            parameter: self.parameter(),
+            change: self.change(),
+        }
+    }
+
+    // What S sets for a zone: the sensitivities of its manager and of its members, and its mode.
+    fn zone_settings(&mut self) -> ZoneSettings {
+        ZoneSettings {
+            manager: self.sensitivity(),
+            member: self.sensitivity(),
+            mode: self.byte(),
+        }
+    }
+
+    // S, a settings record.
+    pub(crate) fn settings(&mut self) -> Settings {
+        let mut settings = Settings::new();
+        settings.layout = self.layout();
+        settings.lower = self.zone_settings();
+        settings.upper = self.zone_settings();
+        for k in 0..16 {
+            settings.pitch_bend[k] = self.two();
+            settings.pressure[k] = self.byte();
+            settings.brightness[k] = self.byte();
+        }
+        settings
+    }
 }

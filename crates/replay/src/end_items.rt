@@ -1,141 +1,85 @@
 // Items 00 to 09: the receiving end.
+use crate::answer::Answer;
 use crate::arguments::Item;
-use crate::line::Line;
-use crate::{parameter_items, receiver_items};
+use crate::out::Out;
 use byte_call::{byte, step};
 use lent_end::byte_of;
-use mpe_layout::{MpeLayout, MpeZone};
+use mpe_layout::MpeZone;
 use receiving_end::end::{End, Reply, Stepped};
+use settings::ZoneSettings;
 
-// The end after an item, and the answer.
-#[derive(Clone, Copy)]
-pub(crate) struct EndAnswered {
-    pub(crate) end: End,
-    pub(crate) line: Line,
-}
-
-// What a byte gets.
-fn reply(reply: Reply) -> Line {
-    match reply {
-        Reply::Quiet => Line::one(0),
-        Reply::Dropped => Line::one(1),
-        Reply::RealTime(b) => Line::two(2, b as u32),
-        Reply::Message(word, event) => receiver_items::event(Line::two(3, word), event),
+impl Answer for Reply {
+    fn write(&self, out: &mut Out) {
+        match *self {
+            Reply::Quiet => 0u8.write(out),
+            Reply::Dropped => 1u8.write(out),
+            Reply::RealTime(b) => (2u8, b).write(out),
+            Reply::Message(word, event) => (3u8, word, event).write(out),
+        }
     }
 }
 
 // The end after a byte, and the answer.
-fn stepped(stepped: Stepped) -> EndAnswered {
-    let end = stepped.end;
-    let r = stepped.reply;
-    EndAnswered {
-        end,
-        line: reply(r),
-    }
-}
-
-// The thin byte call: a local end is lent to it.
-fn thin_byte_of(e: End, b: u8) -> Stepped {
-    let mut end = e;
-    let reply = byte(&mut end, b);
-    Stepped {
-        end: end,
-        reply: reply,
-    }
+fn stepped(end: &mut End, stepped: Stepped, out: &mut Out) {
+    *end = stepped.end;
+    stepped.reply.write(out);
 }
 
 // Answers item 03.
-fn set_layout(end: End, lower: u8, upper: u8) -> EndAnswered {
-    let set = end.set_layout(MpeLayout { lower, upper });
-    let next = set.end;
-    let r = set.reply;
-    EndAnswered {
-        end: next,
-        line: receiver_items::mask(r),
+fn set_layout(end: &mut End, mut item: Item, out: &mut Out) {
+    let set = end.set_layout(item.layout());
+    *end = set.end;
+    set.reply.write(out);
+}
+
+// The reading of a zone. A receiver has the same readings (items 43 and 44): a trait for both would be longer than they are.
+fn zone(end: &End, zone: MpeZone) -> ZoneSettings {
+    ZoneSettings {
+        manager: end.sensitivity(zone, true),
+        member: end.sensitivity(zone, false),
+        mode: end.mode(zone),
     }
 }
 
-// The reading of a zone, after the cells of `line`.
-fn zone(line: Line, end: End, of: MpeZone) -> Line {
-    receiver_items::zone(
-        line,
-        end.sensitivity(of, true),
-        end.sensitivity(of, false),
-        end.mode(of),
-    )
-}
-
-// The reading of the zones.
-fn zones(end: End) -> Line {
+// Answers item 06.
+fn zones(end: &End, out: &mut Out) {
     let layout = end.layout();
-    let counts = Line::two(layout.lower as u32, layout.upper as u32);
-    let lower = zone(counts, end, MpeZone::Lower);
-    zone(lower, end, MpeZone::Upper)
+    (layout, zone(end, MpeZone::Lower), zone(end, MpeZone::Upper)).write(out);
 }
 
-// The reading of a channel.
-fn channel(end: End, c: u8) -> Line {
-    let controls = receiver_items::channel(
-        end.pitch_bend(c),
-        end.pressure(c),
-        end.brightness(c),
-        end.pitch_offset(c),
-    );
-    parameter_items::reading(
-        controls,
+// Answers item 07.
+fn channel(end: &End, c: u8, out: &mut Out) {
+    let controls = (end.pitch_bend(c), end.pressure(c), end.brightness(c));
+    let parameters = (
         end.rpn_reception(c),
         end.nrpn_reception(c),
         end.selection(c),
-    )
-}
-
-// What an item reads of the end.
-fn reading(end: End, operation: u8, c: u8) -> Line {
-    if operation == 0x06 {
-        return zones(end);
-    }
-    if operation == 0x07 {
-        return channel(end, c);
-    }
-    receiver_items::pair_or_none(end.pitch_offset_with_remainder(c))
+    );
+    (controls, end.pitch_offset(c), parameters).write(out);
 }
 
 // The end after an item that answers nothing.
-fn changed(end: End, operation: u8, c: u8, on: bool) -> End {
-    if operation == 0x00 {
-        return End::new();
+fn changed(end: &End, mut item: Item) -> End {
+    match item.operation {
+        0x00 => End::new(),
+        0x04 => end.set_rpn_reception(item.byte(), item.flag()),
+        _ => end.set_nrpn_reception(item.byte(), item.flag()),
     }
-    if operation == 0x04 {
-        return end.set_rpn_reception(c, on);
-    }
-    end.set_nrpn_reception(c, on)
 }
 
 // Answers the item, on an end.
-pub(crate) fn answer(end: End, item: Item) -> EndAnswered {
-    let operation = item.operation;
-    let first = item.a1;
-    let second = item.a2;
-    if operation == 0x01 {
-        return stepped(step(end, first));
-    }
-    if operation == 0x02 {
-        return stepped(byte_of(end, first));
-    }
-    if operation == 0x08 {
-        return stepped(thin_byte_of(end, first));
-    }
-    if operation == 0x03 {
-        return set_layout(end, first, second);
-    }
-    if operation == 0x06 || operation == 0x07 || operation == 0x09 {
-        return EndAnswered {
-            end,
-            line: reading(end, operation, first),
-        };
-    }
-    EndAnswered {
-        end: changed(end, operation, first, second != 0),
-        line: Line::new(),
+pub(crate) fn answer(end: &mut End, mut item: Item, out: &mut Out) {
+    match item.operation {
+        0x01 => stepped(end, step(*end, item.byte()), out),
+        0x02 => stepped(end, byte_of(*end, item.byte()), out),
+        0x03 => set_layout(end, item, out),
+        0x06 => zones(end, out),
+        0x07 => channel(end, item.byte(), out),
+        0x08 => byte(end, item.byte()).write(out),
+        0x09 => end.pitch_offset_with_remainder(item.byte()).write(out),
+        _ => {
+            *end = changed(end, item);
+            ().write(out);
+        }
     }
 }

@@ -3,11 +3,11 @@
 #![tactic(auto)]
 
 mod allocator_items;
+mod answer;
 mod arguments;
 mod end_items;
 mod item;
 mod layout_items;
-mod line;
 mod out;
 mod parameter_items;
 mod pitch_items;
@@ -24,38 +24,31 @@ mod word_items;
 use run::Run;
 use std::io::{Read, Stdin};
 
-// The run where standard input cannot be read.
-fn unreadable(rt: &impl Eprint, run: Run) -> Run {
-    let _ = eprintln!(rt; "replay: standard input cannot be read");
-    run.stopped()
-}
-
-// Reads once and answers the items that came whole. Keeping the loop out of it keeps the buffer out of the loop.
-fn read_some(
-    rt: &impl Eprint,
-    mut input: Stdin,
-    run: Run,
-    item: &mut [u8; 515],
-    buffer: &mut [u8; 4096],
-) -> Run {
+// Reads once and answers the items that came whole: whether more is to be read. Keeping the loop out of it keeps the buffer out of the loop.
+fn read_some(rt: &impl Eprint, mut input: Stdin, run: &mut Run) -> bool {
     let mut text = [0u8; 4096];
     match input.read(&mut text) {
-        Err(_) => unreadable(rt, run),
-        Ok(0) => run.ended(buffer),
-        Ok(n) => run.answer_all(&text[..n], item, buffer).while_written(),
+        Err(_) => {
+            let _ = eprintln!(rt; "replay: standard input cannot be read");
+            false
+        }
+        Ok(0) => {
+            run.end();
+            false
+        }
+        Ok(n) => run.answer_all(&text[..n]),
     }
 }
 
 // A proved loop has to end, and nothing says that the input does: the loop counts its reads, up to a number that no run reaches.
 fn main(rt: HostRuntime) {
-    let mut item = [0u8; 515];
-    let mut buffer = [0u8; 4096];
     let mut run = Run::new(rt.stdout());
     for _ in 0..u64::MAX {
-        if !run.going {
+        if !read_some(&rt, rt.stdin(), &mut run) {
             break;
         }
-        run = read_some(&rt, rt.stdin(), run, &mut item, &mut buffer);
     }
-    run.finished(&rt, &buffer);
+    if !run.finished() {
+        let _ = eprintln!(&rt; "replay: standard output cannot be written");
+    }
 }

@@ -1,7 +1,11 @@
 // The text of a trace, character by character: pairs of hexadecimal digits, with spaces, line ends and comments between them.
 
+// The text cannot be read.
+#[derive(Clone, Copy, Debug, PartialEq, Eq)]
+pub(crate) struct Unreadable;
+
 // Where the reader stands.
-#[derive(Clone, Copy)]
+#[derive(Clone, Copy, Debug, PartialEq, Eq)]
 pub(crate) enum Place {
     // A pair may begin here.
     Apart,
@@ -9,107 +13,33 @@ pub(crate) enum Place {
     Joined,
     // After the first digit of a pair.
     Half(u8),
-    // In a comment.
+    // In a comment, which runs to the line's end.
     Comment,
 }
 
-// What a character makes.
-#[derive(Clone, Copy)]
-pub(crate) enum Token {
-    // No pair: the reader goes on from this place.
-    Passed(Place),
-    // A pair: the reader goes on from `Joined`.
-    Pair(u8),
-    // The text cannot be read.
-    Broken,
-}
-
-// The value of a hexadecimal digit, or 16 for another character.
-fn digit(c: u8) -> u8 {
-    if c < b'0' {
-        return 16;
+// The value of a hexadecimal digit.
+fn digit(c: u8) -> Result<u8, Unreadable> {
+    match char::from(c).to_digit(16) {
+        Some(digit) => Ok(digit as u8),
+        None => Err(Unreadable),
     }
-    if c <= b'9' {
-        return c - b'0';
-    }
-    if c < b'A' {
-        return 16;
-    }
-    if c <= b'F' {
-        return c - 55;
-    }
-    if c < b'a' {
-        return 16;
-    }
-    if c <= b'f' {
-        return c - 87;
-    }
-    16
-}
-
-// A character after a pair: nothing but what may stand between pairs.
-fn between(c: u8) -> Token {
-    if c == b' ' {
-        return Token::Passed(Place::Apart);
-    }
-    if c == b'\n' {
-        return Token::Passed(Place::Apart);
-    }
-    if c == b'\r' {
-        return Token::Passed(Place::Apart);
-    }
-    if c == b'#' {
-        return Token::Passed(Place::Comment);
-    }
-    Token::Broken
-}
-
-// A character where a pair may begin.
-fn first(c: u8) -> Token {
-    let d = digit(c);
-    if d < 16 {
-        return Token::Passed(Place::Half(d));
-    }
-    between(c)
-}
-
-// A character after the first digit of a pair.
-fn second(high: u8, c: u8) -> Token {
-    let d = digit(c);
-    if d < 16 {
-        return Token::Pair(high << 4 | d);
-    }
-    Token::Broken
-}
-
-// A character of a comment, which runs to the line's end.
-fn comment(c: u8) -> Token {
-    if c == b'\n' {
-        return Token::Passed(Place::Apart);
-    }
-    if c == b'\r' {
-        return Token::Passed(Place::Apart);
-    }
-    Token::Passed(Place::Comment)
 }
 
 impl Place {
-    // What the character `c` makes at this place.
-    pub(crate) fn next(self, c: u8) -> Token {
-        match self {
-            Place::Apart => first(c),
-            Place::Joined => between(c),
-            Place::Half(high) => second(high, c),
-            Place::Comment => comment(c),
+    // The place after the character `c`, and the byte whose second digit `c` is.
+    pub(crate) fn next(self, c: u8) -> Result<(Place, Option<u8>), Unreadable> {
+        match (self, c) {
+            (Place::Half(high), _) => Ok((Place::Joined, Some(high << 4 | digit(c)?))),
+            (_, b'\n' | b'\r') => Ok((Place::Apart, None)),
+            (Place::Comment, _) | (_, b'#') => Ok((Place::Comment, None)),
+            (_, b' ') => Ok((Place::Apart, None)),
+            (Place::Apart, _) => Ok((Place::Half(digit(c)?), None)),
+            (Place::Joined, _) => Err(Unreadable),
         }
     }
 
     // The text may end at this place.
     pub(crate) fn may_end(self) -> bool {
-        if let Place::Half(_) = self {
-            false
-        } else {
-            true
-        }
+        !matches!(self, Place::Half(_))
     }
 }

@@ -1,56 +1,26 @@
 // Items 80 to 89: the translator to MIDI 2.0 words, and the scaling of values.
-use crate::arguments;
+use crate::answer::Answer;
 use crate::arguments::Item;
-use crate::line::Line;
-use scale::{Scaled, downscale, upscale, zero_extend_downscale, zero_extend_upscale};
-use translate::{Translated, Translation, flush, translate_words};
+use crate::out::Out;
+use scale::{downscale, upscale, zero_extend_downscale, zero_extend_upscale};
+use translate::{Translated, flush, translate_words};
 use translate_state::{ChannelState, Midi1ToMidi2Group};
-
-// The translator after an item, and the answer.
-#[derive(Clone, Copy)]
-pub(crate) struct TranslatorAnswered {
-    pub(crate) translator: Midi1ToMidi2Group,
-    pub(crate) line: Line,
-}
-
-// What a translation answers.
-fn reply(reply: Translation) -> Line {
-    match reply {
-        Translation::Words(a, b) => Line::two(a, b),
-        Translation::Nothing => Line::new().with(b'-', 0),
-        Translation::OutOfRange => Line::out_of_range(),
-    }
-}
+use ump::reply::OutOfRange;
 
 // The translator after a message or a flush, and the answer.
-fn translated(translated: Translated) -> TranslatorAnswered {
-    let translator = translated.translator;
-    let r = translated.reply;
-    TranslatorAnswered {
-        translator,
-        line: reply(r),
-    }
+fn translated(translator: &mut Midi1ToMidi2Group, translated: Translated, out: &mut Out) {
+    *translator = translated.translator;
+    translated.reply.write(out);
 }
 
 // Answers item 83.
-fn reading(translator: Midi1ToMidi2Group, channel: u8) -> Line {
-    let k = (channel % 16) as usize;
-    let s = translator.state[k];
-    Line::four(
-        s.rpn_msb as u32,
-        s.rpn_lsb as u32,
-        s.nrpn_msb as u32,
-        s.nrpn_lsb as u32,
-    )
-    .with_byte(s.data_msb)
-    .with_byte(s.bank_msb)
-    .with_byte(s.bank_lsb)
-    .with_byte(s.flags)
+fn reading(s: ChannelState, out: &mut Out) {
+    let numbers = [s.rpn_msb, s.rpn_lsb, s.nrpn_msb, s.nrpn_lsb];
+    (numbers, [s.data_msb, s.bank_msb, s.bank_lsb, s.flags]).write(out);
 }
 
-// A channel's state with another value in byte k, or as it is where k is above 7.
-fn with_byte(state: ChannelState, k: u8, value: u8) -> ChannelState {
-    let mut s = state;
+// Sets byte k of a channel's state, 0 to 7.
+fn set_byte(s: &mut ChannelState, k: u8, value: u8) -> Result<(), OutOfRange> {
     match k {
         0 => s.rpn_msb = value,
         1 => s.rpn_lsb = value,
@@ -60,84 +30,37 @@ fn with_byte(state: ChannelState, k: u8, value: u8) -> ChannelState {
         5 => s.bank_msb = value,
         6 => s.bank_lsb = value,
         7 => s.flags = value,
-        _ => {}
+        _ => return Err(OutOfRange),
     }
-    s
+    Ok(())
 }
 
-// Answers item 84.
-fn set_byte(translator: Midi1ToMidi2Group, item: Item) -> TranslatorAnswered {
-    if 7 < item.a2 {
-        return TranslatorAnswered {
-            translator,
-            line: Line::out_of_range(),
-        };
-    }
-    let k = (item.a1 % 16) as usize;
-    let s = with_byte(translator.state[k], item.a2, item.a3);
-    let mut t = translator;
-    t.state[k] = s;
-    TranslatorAnswered {
-        translator: t,
-        line: Line::new(),
+// The value that an item of 86 to 89 answers.
+pub(crate) fn scaled(mut item: Item) -> Result<u32, OutOfRange> {
+    let (value, source, destination) = (item.four(), item.byte(), item.byte());
+    match item.operation {
+        0x86 => upscale(value, source, destination),
+        0x87 => downscale(value, source, destination),
+        0x88 => zero_extend_upscale(value, source, destination),
+        _ => zero_extend_downscale(value, source, destination),
     }
 }
 
-// What a scaling answers.
-fn value(answer: Scaled) -> Line {
-    match answer {
-        Scaled::Value(v) => Line::one(v),
-        Scaled::OutOfRange => Line::out_of_range(),
-    }
-}
-
-// Answers items 86 to 89.
-fn scaled(item: Item) -> Line {
-    let operation = item.operation;
-    let v = arguments::four(item.a1, item.a2, item.a3, item.a4);
-    let s = item.a5;
-    let d = item.a6;
-    if operation == 0x86 {
-        return value(upscale(v, s, d));
-    }
-    if operation == 0x87 {
-        return value(downscale(v, s, d));
-    }
-    if operation == 0x88 {
-        return value(zero_extend_upscale(v, s, d));
-    }
-    value(zero_extend_downscale(v, s, d))
-}
-
-// Answers an item that leaves the translator alone.
-fn answer_plain(translator: Midi1ToMidi2Group, item: Item) -> Line {
-    if item.operation == 0x83 {
-        return reading(translator, item.a1);
-    }
-    scaled(item)
-}
-
-// Answers the item, on a translator.
-pub(crate) fn answer(translator: Midi1ToMidi2Group, item: Item) -> TranslatorAnswered {
-    let operation = item.operation;
-    if operation == 0x80 {
-        return TranslatorAnswered {
-            translator: translator.reset(),
-            line: Line::new(),
-        };
-    }
-    if operation == 0x81 {
-        let word = arguments::four(item.a1, item.a2, item.a3, item.a4);
-        return translated(translate_words(translator, word));
-    }
-    if operation == 0x82 {
-        return translated(flush(translator, item.a1, item.a2));
-    }
-    if operation == 0x84 {
-        return set_byte(translator, item);
-    }
-    TranslatorAnswered {
-        translator,
-        line: answer_plain(translator, item),
+// Answers an item of 80 to 84, on a translator.
+pub(crate) fn answer(t: &mut Midi1ToMidi2Group, mut item: Item, out: &mut Out) {
+    match item.operation {
+        0x80 => {
+            *t = t.reset();
+            ().write(out);
+        }
+        0x81 => translated(t, translate_words(*t, item.four()), out),
+        0x82 => translated(t, flush(*t, item.byte(), item.byte()), out),
+        0x83 => reading(t.state[(item.byte() % 16) as usize], out),
+        _ => set_byte(
+            &mut t.state[(item.byte() % 16) as usize],
+            item.byte(),
+            item.byte(),
+        )
+        .write(out),
     }
 }
