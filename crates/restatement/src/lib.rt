@@ -55,39 +55,87 @@ fn write_announcements(out: &mut [u32], at: usize, layout: MpeLayout)
     put(out, at + 9, upper);
 }
 
-// The settings of a zone.
-fn zone_settings(settings: Settings, zone: MpeZone) -> ZoneSettings
-    ensures { result ≡ zone_of settings zone }
-{
-    match zone {
-        MpeZone::Lower => settings.lower,
-        MpeZone::Upper => settings.upper,
+// Settings that may be restated.
+#[derive(Clone, Copy)]
+struct Restated {
+    settings: Settings,
+    ghost is_allowed: { allowed settings ≡ true },
+}
+
+impl Restated {
+    // The settings of a zone.
+    fn zone(self, zone: MpeZone) -> ZoneSettings
+        ensures { result ≡ zone_of self.settings zone }
+    {
+        match zone {
+            MpeZone::Lower => self.settings.lower,
+            MpeZone::Upper => self.settings.upper,
+        }
     }
-}
 
-// C. The sensitivities of a zone, if it has members; gives the place after them.
-fn write_sensitivities(out: &mut [u32], at: usize, settings: Settings, zone: MpeZone) -> usize
-    requires { (allowed settings ≡ true) × (at + length (sensitivities settings zone) ≤ length out.old) }
-    ensures place { result ≡ at + length (sensitivities settings zone) }
-    ensures buffer { out.new ≡ sets out.old at (sensitivities settings zone) }
-{
-    let set = zone_settings(settings, zone);
-    let part = &mut out[at..];
-    let written = zone_sensitivity_messages(settings.layout, zone, set.manager, set.member, part);
-    // An empty zone is out of range to its writer, and nothing is written.
-    at + written.unwrap_or(0)
-}
+    // C. The sensitivities of a zone, if it has members; gives the place after them.
+    fn write_sensitivities(self, out: &mut [u32], at: usize, zone: MpeZone) -> usize
+        requires { at + length (sensitivities self.settings zone) ≤ length out.old }
+        ensures place { result ≡ at + length (sensitivities self.settings zone) }
+        ensures buffer { out.new ≡ sets out.old at (sensitivities self.settings zone) }
+    {
+        let set = self.zone(zone);
+        let part = &mut out[at..];
+        let written = zone_sensitivity_messages(
+            self.settings.layout,
+            zone,
+            set.manager,
+            set.member,
+            part,
+        );
+        // An empty zone is out of range to its writer, and nothing is written.
+        at + written.unwrap_or(0)
+    }
 
-// D. The mode of a zone, if it has members; gives the place after it.
-fn write_mode(out: &mut [u32], at: usize, settings: Settings, zone: MpeZone) -> usize
-    requires { (allowed settings ≡ true) × (at + 1 ≤ length out.old) }
-    ensures place { result ≡ at + length (modes settings zone) }
-    ensures buffer { out.new ≡ sets out.old at (modes settings zone) }
-{
-    let mono = zone_settings(settings, zone).mode == 4;
-    match mode_message(settings.layout, zone, mono) {
-        Ok(message) => put(out, at, [message]),
-        Err(OutOfRange) => at,
+    // D. The mode of a zone, if it has members; gives the place after it.
+    fn write_mode(self, out: &mut [u32], at: usize, zone: MpeZone) -> usize
+        requires { at + 1 ≤ length out.old }
+        ensures place { result ≡ at + length (modes self.settings zone) }
+        ensures buffer { out.new ≡ sets out.old at (modes self.settings zone) }
+    {
+        let mono = self.zone(zone).mode == 4;
+        match mode_message(self.settings.layout, zone, mono) {
+            Ok(message) => put(out, at, [message]),
+            Err(OutOfRange) => at,
+        }
+    }
+
+    // F. The controls of each channel.
+    #[tactic(auto, unfolding(settings::specs::Messages::each_channel))]
+    fn write_controls(self, out: &mut [u32], at: usize)
+        requires { at + 48 ≤ length out.old }
+        ensures { out.new ≡ sets out.old at (controls self.settings) }
+    {
+        for k in 0..16 {
+            let i = k as usize;
+            let messages = channel_messages(
+                k,
+                self.settings.pitch_bend[i],
+                self.settings.brightness[i],
+                self.settings.pressure[i],
+            );
+            put(out, at + i * 3, messages.unwrap());
+        }
+    }
+
+    // All the messages, at the front of `out`.
+    fn write_messages(self, out: &mut [u32])
+        requires { message_count self.settings.layout ≤ length out.old }
+        ensures { out.new ≡ sets out.old 0 (messages self.settings) }
+    {
+        write_resets(out);
+        write_announcements(out, 16, self.settings.layout);
+        let a = self.write_sensitivities(out, 28, MpeZone::Lower);
+        let b = self.write_sensitivities(out, a, MpeZone::Upper);
+        let c = self.write_mode(out, b, MpeZone::Lower);
+        let d = self.write_mode(out, c, MpeZone::Upper);
+        write_deselections(out, d);
+        self.write_controls(out, d + 32);
     }
 }
 
@@ -104,39 +152,6 @@ fn write_deselections(out: &mut [u32], at: usize)
     }
 }
 
-// F. The controls of each channel.
-#[tactic(auto, unfolding(settings::specs::Messages::each_channel))]
-fn write_controls(out: &mut [u32], at: usize, settings: Settings)
-    requires { (at + 48 ≤ length out.old) × (allowed settings ≡ true) }
-    ensures { out.new ≡ sets out.old at (controls settings) }
-{
-    for k in 0..16 {
-        let i = k as usize;
-        let messages = channel_messages(
-            k,
-            settings.pitch_bend[i],
-            settings.brightness[i],
-            settings.pressure[i],
-        );
-        put(out, at + i * 3, messages.unwrap());
-    }
-}
-
-// All the messages, at the front of `out`.
-fn write_messages(settings: Settings, out: &mut [u32])
-    requires { (allowed settings ≡ true) × (message_count settings.layout ≤ length out.old) }
-    ensures { out.new ≡ sets out.old 0 (messages settings) }
-{
-    write_resets(out);
-    write_announcements(out, 16, settings.layout);
-    let a = write_sensitivities(out, 28, settings, MpeZone::Lower);
-    let b = write_sensitivities(out, a, settings, MpeZone::Upper);
-    let c = write_mode(out, b, settings, MpeZone::Lower);
-    let d = write_mode(out, c, settings, MpeZone::Upper);
-    write_deselections(out, d);
-    write_controls(out, d + 32, settings);
-}
-
 // Writes the messages that bring any end to these settings, as words at the front of `out`. What `counts` says is that the
 // counts in the replies of both writers are those of the messages and of their bytes.
 pub fn restatement_words(settings: Settings, out: &mut [u32]) -> Result<usize, WriteError>
@@ -145,7 +160,7 @@ pub fn restatement_words(settings: Settings, out: &mut [u32]) -> Result<usize, W
     ensures counts { CountsHold }
 {
     let count = words_reply(settings, out.len())?;
-    write_messages(settings, out);
+    Restated { settings }.write_messages(out);
     Ok(count)
 }
 
@@ -197,7 +212,7 @@ pub fn restatement_bytes(settings: Settings, out: &mut [u8]) -> Result<usize, Wr
 {
     let n = bytes_reply(settings, out.len())?;
     let mut words = [0; MOST_MESSAGES];
-    write_messages(settings, &mut words);
+    Restated { settings }.write_messages(&mut words);
     write_bytes(&words[..messages_in(n)], out);
     Ok(n)
 }

@@ -22,7 +22,10 @@ use Rattle.restatement.proofs.restatement_bytes.Goals as goal
 pub write_messages-requires : goal.write_messages-requires
 write_messages-requires c = let s = c.args.settings in
     let q = counted s _ _ _ c.in_ok-n.ensures.reply in
-    (q.is-allowed, most-messages s.layout (allowed-legal s q.is-allowed))
+    most-messages s.layout (allowed-legal s q.is-allowed)
+
+pub invariant_of-write_messages : goal.invariant_of-write_messages
+invariant_of-write_messages c = record { is_allowed = (counted c.args.settings _ _ _ c.in_ok-n.ensures.reply).is-allowed }
 
 pub slice_bounds-words-end : goal.slice_bounds-words-end
 slice_bounds-words-end c =

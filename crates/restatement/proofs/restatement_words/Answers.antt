@@ -16,7 +16,10 @@ returns-in_err-count-clause-counts c = counts-hold
 pub write_messages-requires : goal.write_messages-requires
 write_messages-requires c = let s = c.args.settings in
     let q = counted s _ _ _ c.in_ok-count.ensures.reply in
-    (q.is-allowed, q.fits)
+    q.fits
+
+pub invariant_of-write_messages : goal.invariant_of-write_messages
+invariant_of-write_messages c = record { is_allowed = (counted c.args.settings _ _ _ c.in_ok-count.ensures.reply).is-allowed }
 
 pub returns : goal.returns
 returns c = let s = c.args.settings in

@@ -1,4 +1,4 @@
--- `restatement::write_messages` meets its contract: each group where the last ended.
+-- `restatement::Restated::write_messages` meets its contract: each group where the last ended.
 use mathlib.Core.Path.{refl}
 use Prim.Native.Nat.{◌+◌}
 use Rattle.mpe_layout.specs.declared.MpeZone.TheVariants.{Lower, Upper}
@@ -7,47 +7,47 @@ use Rattle.settings.proofs.Allowed.{allowed-legal}
 use Rattle.restatement.proofs.Sets.{Front, more}
 use Rattle.settings.proofs.Counts.{resets-length, deselections-length, controls-length, parts-count}
 use native.Mathlib.Omega.{arith}
-use Rattle.restatement.proofs.write_messages.Goals as goal
+use Rattle.restatement.proofs.Restated.write_messages.Goals as goal
 
 pub write_resets-requires : goal.write_resets-requires
-write_resets-requires c = let s = c.args.settings in
-    omega (arith, parts-count s, c.requires.1)
+write_resets-requires c = let s = c.args.self.settings in
+    omega (arith, parts-count s, c.requires)
 
 pub write_announcements-requires : goal.write_announcements-requires
-write_announcements-requires c = let s = c.args.settings in
-    (omega (arith, parts-count s, c.requires.1), allowed-legal s c.requires.0)
+write_announcements-requires c = let s = c.args.self.settings in
+    (omega (arith, parts-count s, c.requires), allowed-legal s c.args.self.is_allowed)
 
 pub write_sensitivities-a-requires : goal.write_sensitivities-a-requires
-write_sensitivities-a-requires c = let s = c.args.settings in
-    (c.requires.0, omega (arith, parts-count s, c.requires.1))
+write_sensitivities-a-requires c = let s = c.args.self.settings in
+    omega (arith, parts-count s, c.requires)
 
 pub write_sensitivities-b-requires : goal.write_sensitivities-b-requires
-write_sensitivities-b-requires c = let s = c.args.settings in
-    (c.requires.0, omega (arith, parts-count s, c.requires.1, c.write_sensitivities-a.ensures.place))
+write_sensitivities-b-requires c = let s = c.args.self.settings in
+    omega (arith, parts-count s, c.requires, c.write_sensitivities-a.ensures.place)
 
 pub write_mode-c-requires : goal.write_mode-c-requires
-write_mode-c-requires c = let s = c.args.settings in
-    (c.requires.0, omega (arith, parts-count s, c.requires.1, c.write_sensitivities-a.ensures.place, c.write_sensitivities-b.ensures.place))
+write_mode-c-requires c = let s = c.args.self.settings in
+    omega (arith, parts-count s, c.requires, c.write_sensitivities-a.ensures.place, c.write_sensitivities-b.ensures.place)
 
 pub write_mode-d-requires : goal.write_mode-d-requires
-write_mode-d-requires c = let s = c.args.settings in
-    (c.requires.0, omega (arith, parts-count s, c.requires.1, c.write_sensitivities-a.ensures.place, c.write_sensitivities-b.ensures.place, c.write_mode-c.ensures.place))
+write_mode-d-requires c = let s = c.args.self.settings in
+    omega (arith, parts-count s, c.requires, c.write_sensitivities-a.ensures.place, c.write_sensitivities-b.ensures.place, c.write_mode-c.ensures.place)
 
 pub write_deselections-requires : goal.write_deselections-requires
-write_deselections-requires c = let s = c.args.settings in
-    omega (arith, parts-count s, c.requires.1, c.write_sensitivities-a.ensures.place, c.write_sensitivities-b.ensures.place, c.write_mode-c.ensures.place, c.write_mode-d.ensures.place)
+write_deselections-requires c = let s = c.args.self.settings in
+    omega (arith, parts-count s, c.requires, c.write_sensitivities-a.ensures.place, c.write_sensitivities-b.ensures.place, c.write_mode-c.ensures.place, c.write_mode-d.ensures.place)
 
 pub overflow_add-d : goal.overflow_add-d
-overflow_add-d c = let s = c.args.settings in
-    omega (arith, parts-count s, c.requires.1, c.write_sensitivities-a.ensures.place, c.write_sensitivities-b.ensures.place, c.write_mode-c.ensures.place, c.write_mode-d.ensures.place)
+overflow_add-d c = let s = c.args.self.settings in
+    omega (arith, parts-count s, c.requires, c.write_sensitivities-a.ensures.place, c.write_sensitivities-b.ensures.place, c.write_mode-c.ensures.place, c.write_mode-d.ensures.place)
 
 pub write_controls-requires : goal.write_controls-requires
-write_controls-requires c = let s = c.args.settings in
-    (omega (arith, parts-count s, c.requires.1, c.write_sensitivities-a.ensures.place, c.write_sensitivities-b.ensures.place, c.write_mode-c.ensures.place, c.write_mode-d.ensures.place), c.requires.0)
+write_controls-requires c = let s = c.args.self.settings in
+    omega (arith, parts-count s, c.requires, c.write_sensitivities-a.ensures.place, c.write_sensitivities-b.ensures.place, c.write_mode-c.ensures.place, c.write_mode-d.ensures.place)
 
 pub returns : goal.returns
 unfolding messages
-returns c = let s = c.args.settings in
+returns c = let s = c.args.self.settings in
     let f1 : Front c.args.out.now c.write_resets.new.out resets 16 = record { put = c.write_resets.ensures; long = resets-length } in
     let f2 = more (announcements s.layout) 28 f1 c.write_announcements.ensures refl in
     let f3 = more (sensitivities s Lower) c.write_sensitivities-a.result f2 c.write_sensitivities-a.ensures.buffer c.write_sensitivities-a.ensures.place in
