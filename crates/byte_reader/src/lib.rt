@@ -123,6 +123,7 @@ impl Reader {
     }
 
     // One byte.
+    #[tactic(auto, using(crate::proofs::EachByte::each_byte))]
     pub fn step(self, b: u8) -> ReadStep
         ensures is { result ≡ read_step self b }
         ensures bytes { EachByte self b result }

@@ -16,7 +16,7 @@ use Rattle.byte_reader.specs.declared.Read.TheVariants as read
 use Rattle.byte_reader.specs.declared.ReadStep.{ReadStep}
 use Rattle.byte_reader.specs.Reader.{new_reader, reading, class_of_byte, data_step, read_step}
 use Rattle.byte_reader.specs.Claims.{IsNoStatus}
-use Rattle.byte_reader.proofs.EachByte.{new-left, each-byte}
+use Rattle.byte_reader.proofs.EachByte.{new-left, each_byte}
 use Rattle.receiving_end.specs.declared.end.End.{End}
 use Rattle.receiving_end.specs.End.{new_end, message_at, answer_step, step_of, step_reply, step_end}
 use Rattle.receiving_end.specs.Lists.{Call, byte_by_value, byte_lent, set_layout, set_rpn_reception, set_nrpn_reception, layout, mode, sensitivity, pitch_bend, pressure, brightness, pitch_offset, pitch_offset_with_remainder, selection, rpn_reception, nrpn_reception, replied, answer, next, after, answers}
@@ -82,7 +82,7 @@ drops-data : (e : End) → e.reader ≡ new_reader → EndDropsData e
 drops-data e r calls lent d n h =
     let f = after e calls in
     let new = calls-left e calls n r in
-    answer-by f lent d (reading f.reader read.Dropped) ((each-byte f.reader d).no_status h (rw new (omega arith)))
+    answer-by f lent d (reading f.reader read.Dropped) ((each_byte f.reader d).no_status h (rw new (omega arith)))
 
 -- by computation
 port-selected : map (λ bytes. answers new_end (map byte_by_value bytes)) port_bytes ≡ map (map replied) port_replies
@@ -113,7 +113,7 @@ pub system-bytes : SystemBytes
 system-bytes =
     record {
       each = λ e lent b.
-          let line = each-byte e.reader b in
+          let line = each_byte e.reader b in
           record {
             real_time = λ h. let p = line.real_time h in (answer-by e lent b _ p, next-by e lent b _ p);
             undefined = λ h. let p = line.undefined h in (answer-by e lent b _ p, next-by e lent b _ p);

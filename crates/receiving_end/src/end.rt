@@ -97,7 +97,7 @@ impl End {
         }
     }
 
-    // Turns a channel's RPN reception on or off.
+    // Turns a channel's RPN reception on or off. Each kind has calls of its own, by the source's names.
     pub fn set_rpn_reception(self, channel: u8, on: bool) -> End
         ensures is { result ≡ rpn_switched_at self channel on }
         ensures call { CallGives self (set_rpn_reception channel on) done result }
