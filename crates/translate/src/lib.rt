@@ -4,7 +4,7 @@
 ghost use Rattle.std.specs.Prelude.{◌≡◌, ◌<◌, ◌≤◌, ◌^◌, IsTrue, Ok};
 ghost use Rattle.scale.specs.Scale.{widened, zero_extended};
 ghost use Rattle.translate_state.specs.State.{value_in, new_record, record_allowed, state_on};
-ghost use Rattle.translate.specs.Translate.{translation_read, opcode_number, first_word, controller_data, controller_numbered, controller, joined_value, pending_words, channel_step, msb_entered, lsb_entered, passed_on, control_changed, bank_words, program_words, note_words, message_translated, with_state, translation_of, record_after, flush_reply, flushed_record};
+ghost use Rattle.translate.specs.Translate.{translation_read, opcode_number, first_word, controller_data, controller_numbered, controller, joined_value, pending_words, channel_step, msb_entered, lsb_entered, passed_on, control_changed, program_words, note_words, message_translated, with_state, translation_of, record_after, flush_reply, flushed_record};
 ghost use Rattle.translate.specs.Lists.{translate_words, flush, TranslatorGives, ListContinues, Formed, ExactlyAccepted, OthersRefused, OthersMet};
 ghost use Rattle.translate.specs.Rules.{NoNumberRules, TranslatedByRules};
 
