@@ -1,7 +1,7 @@
 -- Laws that the reader's proofs cite.
 mod Capped
 mod Taking
-mod Places
+mod Parts
 mod Digits
 mod Words
 mod Items

@@ -4,15 +4,12 @@ use Prim.Native.Nat.{ℕ, suc, ◌+◌, ◌<◌, ◌≤◌}
 use mathlib.Core.Path.{◌≡◌, refl, sym, ap, ◌∙◌}
 use mathlib.Core.List.{List, [], ◌∷◌, ◌++◌, append-nil, append_assoc}
 use native.Mathlib.Numerals.{add-one}
-use lib.Dec.{eqb}
 use lib.ListN.{length, get_or, take, drop, set, drop_of_length-le}
 use lib.Seq.{drop-cons, take-suc-set}
-use Rattle.std.specs.List.{onto_first}
 use Rattle.ump.specs.Outcome.{Outcome, given, declined, joined, followed_by}
-use Rattle.ump.proofs.Cases.{by-test}
 use Rattle.setup_text.specs.declared.Field.{Field}
 use Rattle.setup_text.specs.declared.Field.TheVariants as field
-use Rattle.setup_text.specs.Parse.{no_item, parts_at, field_read, fields_read}
+use Rattle.setup_text.specs.Parse.{no_item, field_read, fields_read}
 
 -- some numbers, and those that the words that are left say
 abbrev pub numbers_on : List ℕ → List Field → List (List ℕ) → Outcome (List ℕ)
@@ -28,16 +25,6 @@ one-before said n (declined r v) = refl
 
 pub numbers-start : (fields : List Field) (words : List (List ℕ)) → numbers_on [] fields words ≡ fields_read fields words
 numbers-start fields words = nothing-before (fields_read fields words)
-
--- a text has a part
-some-part : (stop : ℕ) (l : List ℕ) → (part : List ℕ) × (parts : List (List ℕ)) × (parts_at stop l ≡ part ∷ parts)
-unfolding parts_at
-some-part stop [] = ([], [], refl)
-some-part stop (b ∷ l) =
-    let r = some-part stop l in
-    by-test (eqb b stop)
-    (λ t. ([], parts_at stop l, rw t))
-    (λ f. (b ∷ r.0, r.1, rw f (ap (onto_first b) r.2)))
 
 module _ (said : List ℕ) (fields : List Field) (k : ℕ) where
   module _ (h : k < length fields) where
@@ -65,9 +52,9 @@ module _ (said : List ℕ) (fields : List Field) (k : ℕ) where
     unfolding fields_read
     numbers-end = ap (λ f. numbers_on said f []) (drop_of_length-le fields h) ∙ rw (append-nil said)
 
-    pub numbers-over : (stop : ℕ) (l : List ℕ) → numbers_on said (drop k fields) (parts_at stop l) ≡ no_item
+    pub numbers-over : (word : List ℕ) (words : List (List ℕ)) → numbers_on said (drop k fields) (word ∷ words) ≡ no_item
     unfolding fields_read
-    numbers-over stop l = let p = some-part stop l in ap (λ f. numbers_on said f (parts_at stop l)) (drop_of_length-le fields h) ∙ rw p.2
+    numbers-over word words = ap (λ f. numbers_on said f (word ∷ words)) (drop_of_length-le fields h)
 
 -- one number more in the array
 pub taken_more : (l : List ℕ) (k n : ℕ) → k < length l → take (k + 1) (set l k n) ≡ take k l ++ (n ∷ [])

@@ -1,6 +1,5 @@
 -- How far a text has been read, what the steps of the reader found, and what it answers.
 use Rattle.std.specs.Prelude.{ℕ, List, [], ◌∷◌, ◌++◌, map, ltb, length, take, Option, Some, None, Result, Ok, Err}
-use denote.Ref.{Bor}
 use Rattle.ump.specs.Choice.{when◌then◌else◌}
 use Rattle.ump.specs.Outcome.{Outcome, given}
 use Rattle.settings.specs.declared.Settings.{Settings}
@@ -13,12 +12,7 @@ use Rattle.setup_text_reader.specs.declared.Item.{Item}
 use Rattle.setup_text_reader.specs.declared.Item.TheVariants as item
 use Rattle.setup_text_reader.specs.declared.Progress.{Progress}
 use Rattle.setup_text.specs.Text.{line_fields}
-use Rattle.setup_text.specs.Parse.{no_item, parts_at, entry_from, Item as TextItem, says_nothing, says_entry, says_label, SoFar, so_far, on_line}
-
--- the parts of what follows a part; behind the last there is none
-abbrev pub parts_left : ℕ → Option (Bor (List ℕ)) → List (List ℕ)
-parts_left stop None = []
-parts_left stop (Some rest) = parts_at stop rest.now
+use Rattle.setup_text.specs.Parse.{no_item, entry_from, Item as TextItem, says_nothing, says_entry, says_label, SoFar, so_far, on_line}
 
 -- what a word says
 abbrev pub said_read : Option ℕ → Outcome ℕ

@@ -1,17 +1,17 @@
 // The reader of the text form of a setup file (document 02, 2026-07): the settings and the label that a text says, or its first faulty line.
 #![tactic(auto)]
 
-ghost use Rattle.std.specs.Prelude.{◌≡◌, ◌≢◌, ◌∷◌, ℕ, ◌+◌, ◌<◌, length, slice_index, EachIndex, MatchOption};
+ghost use Rattle.std.specs.Prelude.{◌≡◌, ◌+◌, ◌<◌};
 ghost use Rattle.std.specs.Result.{result_unwrap_or};
 ghost use Rattle.ump.specs.Choice.{when◌then◌else◌};
 ghost use Rattle.ump.specs.Outcome.{given};
 ghost use Rattle.settings.specs.Settings.{new_settings};
 ghost use Rattle.setup_file.specs.Read.{settings_in, settings_or_new, label_in};
 ghost use Rattle.setup_text.specs.Text.{line_fields, label_start};
-ghost use Rattle.setup_text.specs.Parse.{parts_at, line_words, number_read, same_bytes, field_read, fields_read, entry_from, silent, no_item, entry_line_read, or_else, item_read, first_place, entry_taken, label_taken, line_taken, text_read, line_in};
+ghost use Rattle.setup_text.specs.Parse.{line_words, number_read, same_bytes, field_read, fields_read, entry_from, silent, no_item, entry_line_read, or_else, item_read, first_place, entry_taken, label_taken, line_taken, text_read, line_in};
 ghost use Rattle.setup_text.specs.Claims.{TextForm, FirstFault};
 ghost use Rattle.setup_text.specs.Examples.{TextsAsTabled};
-ghost use Rattle.setup_text_reader.specs.Progress.{parts_left, said_read, numbers_found, item_found, byte_for, entry_bytes, said_so_far, read_so_far, whole_read, text_answered, fault_line};
+ghost use Rattle.setup_text_reader.specs.Progress.{said_read, numbers_found, item_found, byte_for, entry_bytes, said_so_far, read_so_far, whole_read, text_answered, fault_line};
 
 use settings::Settings;
 use setup_entry::{SetupError, take_entry};
@@ -39,23 +39,6 @@ struct Progress<'a> {
     settings: Settings,
     label: &'a [u8],
     least: u8,
-}
-
-// Where the first such byte of a text stands.
-fn part_end(text: &[u8], stop: u8) -> Option<usize>
-    ensures { MatchOption result (EachIndex text.now (λ k. slice_index text.now k ≢ stop)) (λ i. (i < length text.now) × (slice_index text.now i ≡ stop) × ((k : ℕ) → k < i → slice_index text.now k ≢ stop)) }
-{
-    text.iter().position(|b| *b == stop)
-}
-
-// The first part of a text, between one such byte and the next, and what follows that byte, if there is one.
-fn first_part(text: &[u8], stop: u8) -> (&[u8], Option<&[u8]>)
-    ensures { parts_at stop text.now ≡ result.0.now ∷ parts_left stop result.1 }
-{
-    match part_end(text, stop) {
-        Some(end) => (&text[..end], Some(&text[end + 1..])),
-        None => (text, None),
-    }
 }
 
 // The number that 1 to 5 decimal digits say.
@@ -118,17 +101,20 @@ fn field_said(field: Field, word: &[u8]) -> Option<u32>
 fn line_numbers(section: Section, line: &[u8]) -> Option<[u32; 8]>
     ensures { numbers_found section result ≡ fields_read (line_fields section) (line_words line.now) }
 {
+    let fields = field_count(section);
     let mut numbers = [0; 8];
-    let mut rest = Some(line);
-    for k in 0..field_count(section) {
-        let (word, more) = first_part(rest?, b' ');
-        numbers[k] = field_said(field_at(section, k), word)?;
-        rest = more;
+    let mut count: usize = 0;
+    for word in line.split(|b| *b == b' ') {
+        if count == fields {
+            return None;
+        }
+        numbers[count] = field_said(field_at(section, count), word)?;
+        count += 1;
     }
-    match rest {
-        None => Some(numbers),
-        Some(_) => None,
+    if count < fields {
+        return None;
     }
+    Some(numbers)
 }
 
 // An empty line and one that begins with '#' say nothing.
@@ -142,7 +128,7 @@ fn is_silent(line: &[u8]) -> bool
 }
 
 // The item of a line that has the form of a section.
-fn entry_item<'a>(line: &'a [u8]) -> Result<Item<'a>, SetupError>
+fn entry_item(line: &[u8]) -> Result<Item<'_>, SetupError>
     ensures { item_found result ≡ or_else (entry_line_read Section.Zones line.now) (entry_line_read Section.Channels line.now) }
 {
     if let Some(numbers) = line_numbers(Section::Zones, line) {
@@ -156,7 +142,7 @@ fn entry_item<'a>(line: &'a [u8]) -> Result<Item<'a>, SetupError>
 
 // The item of a line.
 #[tactic(auto, unfolding(setup_text::specs::Parse::item_read, setup_text::specs::Parse::same_bytes))]
-fn line_item<'a>(line: &'a [u8]) -> Result<Item<'a>, SetupError>
+fn line_item(line: &[u8]) -> Result<Item<'_>, SetupError>
     ensures { item_found result ≡ item_read line.now }
 {
     if is_silent(line) {
@@ -211,6 +197,9 @@ fn first_place(section: Section) -> u8
     }
 }
 
+// The place of the label: after two zones and sixteen channels.
+const LABEL_PLACE: u8 = 18;
+
 // An entry, by the numbers of its line, after what was said so far.
 fn take_numbers<'a>(
     section: Section,
@@ -241,13 +230,13 @@ fn take_label<'a>(label: &'a [u8], from: Progress<'a>) -> Result<Progress<'a>, S
     if !label_allowed(label) {
         return Err(SetupError::OutOfRange);
     }
-    if 18 < from.least {
+    if LABEL_PLACE < from.least {
         return Err(SetupError::OutOfOrder);
     }
     Ok(Progress {
         settings: from.settings,
         label,
-        least: 19,
+        least: LABEL_PLACE + 1,
     })
 }
 
@@ -263,7 +252,7 @@ fn read_line<'a>(line: &'a [u8], from: Progress<'a>) -> Result<Progress<'a>, Set
 }
 
 // The whole text, line by line.
-fn read_text<'a>(text: &'a [u8]) -> Result<Progress<'a>, TextError>
+fn read_text(text: &[u8]) -> Result<Progress<'_>, TextError>
     ensures { whole_read result ≡ text_read text.now }
 {
     let mut progress = Progress {
@@ -272,9 +261,7 @@ fn read_text<'a>(text: &'a [u8]) -> Result<Progress<'a>, TextError>
         least: 0,
     };
     let mut number: usize = 0;
-    let mut rest = Some(text);
-    while let Some(left) = rest {
-        let (line, more) = first_part(left, b'\n');
+    for line in text.split(|b| *b == b'\n') {
         number += 1;
         progress = match read_line(line, progress) {
             Ok(next) => next,
@@ -285,7 +272,6 @@ fn read_text<'a>(text: &'a [u8]) -> Result<Progress<'a>, TextError>
                 });
             }
         };
-        rest = more;
     }
     Ok(progress)
 }

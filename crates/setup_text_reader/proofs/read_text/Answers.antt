@@ -1,38 +1,50 @@
 -- `setup_text_reader::read_text` meets its contract: what is left to read gives the answer of the whole.
 use Prim.Native.Nat.{suc, ◌+◌}
 use mathlib.Core.Path.{◌≡◌, sym, ap, ◌∙◌}
-use mathlib.Core.List.{◌∷◌}
+use mathlib.Core.List.{[], ◌∷◌, ◌++◌}
 use native.Mathlib.Numerals.{add-one}
 use native.Mathlib.Omega.{arith}
-use lib.ListN.{length}
-use Rattle.setup_text.specs.Parse.{lines_read, text_read}
-use Rattle.setup_text_reader.specs.Progress.{parts_left, said_so_far}
-use Rattle.setup_text_reader.proofs.Places.{parts-most}
+use lib.ListN.{length, drop, length-append, drop_of_length-le}
+use Rattle.std.proofs.Common.{rules, tests}
+use Rattle.std.proofs.lemmas.Iterator.Splits.{YieldsList-from_slice_split}
+use Rattle.setup_text.specs.Parse.{text_lines, lines_read, text_read}
+use Rattle.setup_text_reader.specs.Progress.{said_so_far}
+use Rattle.setup_text_reader.proofs.Parts.{part-turn, part-end}
 use Rattle.setup_text_reader.proofs.Reading.{line_refused, line_read}
 use Rattle.setup_text_reader.proofs.read_text.Goals as goal
+use Rattle.setup_text_reader.proofs.read_text.Goals.{In-Some}
 
-pub overflow_add-number : goal.overflow_add-number
-overflow_add-number c = let i = c.loop-rest in
-    let most = parts-most 0x0A c.args.text.now in
-    let left = ap (λ r. length (parts_left 0x0A r)) c.in-Some.is ∙ ap length c.first_part.ensures in
-    record { fits = omega (arith, i.invariant.0, most, left) }
+-- the line of this turn, and those behind it
+turn : (c : In-Some) → lines_read (length c.loop-line.yielded + 1) (said_so_far c.loop-line.progress) (c.in-Some.line.now ∷ drop (length c.loop-line.yielded + 1) (text_lines c.args.text.now)) ≡ text_read c.args.text.now
+turn c = let i = c.loop-line in
+    let s = c.split-line-items.ensures in
+    let n = length i.yielded in
+    let t = part-turn 0x0A c.args.text.now (YieldsList-from_slice_split _ _ c.args.text.now s.rest s.done s.closure (λ x r q k. search (rules, tests)))
+    c.into_iter-line-iterator.ensures.into_iter_gives i.yielded i.line-iterator i.yielded_by c.next.result c.next.new.self c.in-Some.line c.in-Some.is c.next.ensures.steps in
+    ap (λ k. lines_read k (said_so_far i.progress) (c.in-Some.line.now ∷ drop (n + 1) (text_lines c.args.text.now))) (add-one n)
+    ∙ ap (lines_read (suc n) (said_so_far i.progress)) (sym t)
+    ∙ i.invariant.1
 
 pub returns-in-Err : goal.returns-in-Err
-returns-in-Err c = let i = c.loop-rest in
-    let lines = parts_left 0x0A c.first_part.result.1 in
-    let e : lines_read (i.number + 1) (said_so_far i.progress) (c.first_part.result.0.now ∷ lines) ≡ text_read c.args.text.now =
-    rw add-one (ap (lines_read (suc i.number) (said_so_far i.progress)) (sym c.first_part.ensures ∙ ap (parts_left 0x0A) (sym c.in-Some.is)) ∙ i.invariant.1) in
-    line_refused (i.number + 1) (said_so_far i.progress) c.first_part.result.0.now lines c.in-Err.refusal c.in-Err.ensures ∙ e
+returns-in-Err c = let i = c.loop-line in
+    let lines = drop (length i.yielded + 1) (text_lines c.args.text.now) in
+    rw i.invariant.0
+    (line_refused (length i.yielded + 1) (said_so_far i.progress) c.in-Some.line.now lines c.in-Err.refusal c.in-Err.ensures ∙ turn (goal.at.returns-in-Err c).In-Some)
 
-pub loop-rest-preserved : goal.loop-rest-preserved
-loop-rest-preserved c = let i = c.loop-rest in
-    let lines = parts_left 0x0A c.first_part.result.1 in
-    let left = ap (λ r. length (parts_left 0x0A r)) c.in-Some.is ∙ ap length c.first_part.ensures in
-    let e : lines_read (i.number + 1) (said_so_far i.progress) (c.first_part.result.0.now ∷ lines) ≡ text_read c.args.text.now =
-    rw add-one (ap (lines_read (suc i.number) (said_so_far i.progress)) (sym c.first_part.ensures ∙ ap (parts_left 0x0A) (sym c.in-Some.is)) ∙ i.invariant.1) in
-    (omega (arith, i.invariant.0, left), line_read (i.number + 1) (said_so_far i.progress) c.first_part.result.0.now lines (said_so_far c.in-Ok.next) c.in-Ok.ensures ∙ e)
+pub loop-line-preserved : goal.loop-line-preserved
+loop-line-preserved c = let i = c.loop-line in
+    let lines = drop (length i.yielded + 1) (text_lines c.args.text.now) in
+    let n : length (i.yielded ++ (c.in-Some.line ∷ [])) ≡ length i.yielded + 1 = length-append i.yielded (c.in-Some.line ∷ []) in (
+      omega (arith, n, i.invariant.0),
+      rw n
+          (line_read (length i.yielded + 1) (said_so_far i.progress) c.in-Some.line.now lines (said_so_far c.in-Ok.next) c.in-Ok.ensures
+          ∙ turn (goal.at.loop-line-preserved c).In-Some),
+    )
 
 pub returns : goal.returns
 unfolding lines_read
-returns c = let i = c.loop-rest in
-    ap (λ r. lines_read (suc i.number) (said_so_far i.progress) (parts_left 0x0A r)) (sym c.in_default.is) ∙ i.invariant.1
+returns c = let i = c.loop-line in
+    let s = c.split-line-items.ensures in
+    let n = part-end 0x0A c.args.text.now (YieldsList-from_slice_split _ _ c.args.text.now s.rest s.done s.closure (λ x r q k. search (rules, tests)))
+    c.into_iter-line-iterator.ensures.into_iter_gives i.yielded i.line-iterator i.yielded_by c.next.result c.next.new.self c.in-None.is c.next.ensures.steps in
+    ap (lines_read (suc (length i.yielded)) (said_so_far i.progress)) (sym (drop_of_length-le (text_lines c.args.text.now) {i = length i.yielded} (omega (arith, n)))) ∙ i.invariant.1
