@@ -14,7 +14,8 @@ fn complain(rt: &impl Eprint, line: &str) {
     let _ = eprintln!(rt; "{line}");
 }
 
-// Reads until the buffer is full, the input ends or a read fails, and says how many bytes stand at the buffer's start.
+// Reads until the buffer is full, the input ends or a read fails, and says how many bytes stand at the buffer's start. The loop is a `while`: the
+// library's `read_exact` does not say how many bytes came before the end, and its `read_to_end` takes heap.
 fn read_full(input: &mut impl Read, buffer: &mut [u8]) -> usize
     ensures { result ≤ length buffer.new }
 {

@@ -22,11 +22,7 @@ struct Progress<'a> {
 }
 
 // So many entries: the settings with what they say, and the bytes after them.
-fn read_entries<'a>(
-    section: Section,
-    count: u8,
-    from: Progress<'a>,
-) -> Result<Progress<'a>, SetupError>
+fn read_entries(section: Section, count: u8, from: Progress<'_>) -> Result<Progress<'_>, SetupError>
     ensures { progress_read result ≡ entries_read section count 0 from.entry.settings from.entry.rest.now }
 {
     let mut settings = from.settings;
@@ -41,7 +37,7 @@ fn read_entries<'a>(
 }
 
 // A section: its count, and its entries.
-fn read_section<'a>(section: Section, from: Progress<'a>) -> Result<Progress<'a>, SetupError>
+fn read_section(section: Section, from: Progress<'_>) -> Result<Progress<'_>, SetupError>
     ensures { progress_read result ≡ section_read section from.entry.settings from.entry.rest.now }
 {
     let settings = from.settings;
@@ -53,7 +49,7 @@ fn read_section<'a>(section: Section, from: Progress<'a>) -> Result<Progress<'a>
 }
 
 // The zones from the front on; their pair is tested behind the section.
-fn read_zones<'a>(file: &'a [u8]) -> Result<Progress<'a>, SetupError>
+fn read_zones(file: &[u8]) -> Result<Progress<'_>, SetupError>
     ensures { progress_read result ≡ zones_read file.now }
 {
     let new = Progress {
@@ -68,7 +64,7 @@ fn read_zones<'a>(file: &'a [u8]) -> Result<Progress<'a>, SetupError>
 }
 
 // The label, which ends the file; the bytes that are left are then those of the label.
-fn read_label<'a>(from: Progress<'a>) -> Result<Progress<'a>, SetupError>
+fn read_label(from: Progress<'_>) -> Result<Progress<'_>, SetupError>
     ensures { progress_read result ≡ label_read from.entry.settings from.entry.rest.now }
 {
     let settings = from.settings;
@@ -90,7 +86,7 @@ fn read_label<'a>(from: Progress<'a>) -> Result<Progress<'a>, SetupError>
 }
 
 // The whole file; the bytes that are left are then those of its label.
-fn read_file<'a>(file: &'a [u8]) -> Result<Progress<'a>, SetupError>
+fn read_file(file: &[u8]) -> Result<Progress<'_>, SetupError>
     ensures { progress_read result ≡ file_read file.now }
 {
     let zones = read_zones(file)?;

@@ -97,7 +97,7 @@ fn channel_entry(settings: Settings, number: u8) -> [u8; 5]
     ]
 }
 
-// Puts bytes at a place, and gives the place after them.
+// Puts bytes at a place, and gives the place after them. `out` and `at` stay two: a struct of both would hold the `&mut`, and no contract be shorter.
 fn put(out: &mut [u8], at: usize, bytes: &[u8]) -> usize
     requires { at + length bytes.now ≤ length out.old }
     ensures place { result ≡ at + length bytes.now }
