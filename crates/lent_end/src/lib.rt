@@ -54,11 +54,11 @@ fn event_by_role(receiver: MpeReceiver, role: MpeRole, word: u32) -> MpeEvent
 fn event_reply(receiver: MpeReceiver, word: u32) -> Reply
     ensures { result ≡ event_reply receiver word }
 {
-    let role = receiver.layout.role_compared(channel(word));
-    Reply::Message(
-        word,
-        role.map_or(MpeEvent::NoZone, |role| event_by_role(receiver, role, word)),
-    )
+    let role = receiver
+        .layout
+        .role_compared(channel(word))
+        .unwrap_or(MpeRole::NoZone);
+    Reply::Message(word, event_by_role(receiver, role, word))
 }
 
 // The value of a bend.
