@@ -1,7 +1,7 @@
 // Pitch bend sensitivity, and pitch offsets in hundredths of a cent (mpe.rs).
 #![tactic(auto)]
 
-ghost use Rattle.std.specs.Prelude.{◌≡◌, ◌+◌, ◌*◌, ◌<◌, ◌≤◌, min, nat_abs, pos, ◌-ℤ◌};
+ghost use Rattle.std.specs.Prelude.{◌≡◌, ◌+◌, ◌*◌, ◌<◌, ◌≤◌, min, pos, ◌-ℤ◌};
 ghost use Rattle.ump.specs.Choice.{when◌then◌else◌};
 ghost use Rattle.mpe_pitch.specs.Pitch.{manager_default, member_default, range_of, nearest, pitch_offset, pitch_bend_value};
 ghost use Rattle.mpe_pitch.specs.Remainder.{pitch_remainder, offset_with_remainder};
@@ -49,13 +49,6 @@ impl MpeSensitivity {
 
 // Hundredths of a cent in a semitone: the unit of a pitch offset.
 pub const PITCH_UNITS_PER_SEMITONE: i32 = 10_000;
-
-// The magnitude of a signed number, the smallest one's too.
-pub fn unsigned_abs(z: i32) -> u32
-    ensures { result ≡ nat_abs z }
-{
-    z.unsigned_abs()
-}
 
 // 8192 times n over d, rounded, halves up, in steps of 64 and 128 that fit 32 bits.
 #[tactic(auto, using(crate::proofs::Round::over_d))]
