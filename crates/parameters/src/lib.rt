@@ -116,6 +116,7 @@ impl ParameterState {
     }
 
     // A data entry or a step: an event for the selected parameter.
+    // The selection is taken apart by `let .. else`, as document 01 asks for, and not by `map`.
     fn entry(self, change: ParameterChange) -> ParameterUpdate
         ensures { result ≡ entered self change }
     {
