@@ -2,11 +2,14 @@
 // then, channels rising, those of each entry that is still pending.
 #![tactic(auto)]
 
+mod out;
+
 use midi2_text::cable::{Cable, Heard};
 use midi2_text::line::pair_line;
+use out::Out;
+use std::fmt;
 use std::fmt::{Display, Formatter};
-use std::io::{BufWriter, Read, Write};
-use std::{fmt, io};
+use std::io::Read;
 
 // What failed.
 #[derive(Clone, Copy, Debug)]
@@ -26,69 +29,56 @@ impl Display for Failure {
 
 // The cable after a byte or a flush, with its words written. None of a cable is declined: its words are those of messages, and its translator is as
 // they leave it.
-fn write_words(output: &mut impl Write, heard: Heard) -> Result<Cable, Failure> {
+fn write_words(out: &mut Out, heard: Heard) -> Result<Cable, Failure> {
     if let Ok(Some(words)) = heard.reply {
-        output
-            .write_all(&pair_line(words[0], words[1]))
-            .map_err(|_| Failure::Write)?;
+        out.text(&pair_line(words[0], words[1]))?;
     }
     Ok(heard.cable)
 }
 
-fn hear_all(output: &mut impl Write, cable: Cable, bytes: &[u8]) -> Result<Cable, Failure> {
+fn hear_all(out: &mut Out, cable: Cable, bytes: &[u8]) -> Result<Cable, Failure> {
     let mut cable = cable;
     for byte in bytes {
-        cable = write_words(output, cable.hear(*byte))?;
+        cable = write_words(out, cable.hear(*byte))?;
     }
-    output.flush().map_err(|_| Failure::Write)?;
+    out.flush()?;
     Ok(cable)
 }
 
-fn flush_all(output: &mut impl Write, cable: Cable) -> Result<(), Failure> {
+fn flush_all(out: &mut Out, cable: Cable) -> Result<(), Failure> {
     let mut cable = cable;
     for channel in 0..16u8 {
-        cable = write_words(output, cable.flush(channel))?;
+        cable = write_words(out, cable.flush(channel))?;
     }
-    output.flush().map_err(|_| Failure::Write)
+    out.flush()
 }
 
 // Reads once, and writes the words of what came; none at the end of input.
-fn listen(
-    input: &mut impl Read,
-    output: &mut impl Write,
-    cable: Cable,
-) -> Result<Option<Cable>, Failure> {
+fn listen(input: &mut impl Read, out: &mut Out, cable: Cable) -> Result<Option<Cable>, Failure> {
     let mut text = [0u8; 4096];
     let n = input.read(&mut text).map_err(|_| Failure::Read)?;
     if n == 0 {
         return Ok(None);
     }
-    let next = hear_all(output, cable, &text[..n])?;
+    let next = hear_all(out, cable, &text[..n])?;
     Ok(Some(next))
 }
 
 // A proved loop has to end, and nothing says that the input does: it counts its reads, to a number that no run uses up.
-fn translate(input: &mut impl Read, output: &mut impl Write) -> Result<(), Failure> {
+fn translate(input: &mut impl Read, out: &mut Out) -> Result<(), Failure> {
     let mut cable = Cable::new();
     for _ in 0..u64::MAX {
-        match listen(input, output, cable)? {
+        match listen(input, out, cable)? {
             Some(next) => cable = next,
             None => break,
         }
     }
-    flush_all(output, cable)
-}
-
-// After a write that failed, nothing more is written: what waits then is let go.
-fn run(rt: &(impl Print + AllocGlobal), input: &mut impl Read) -> Result<(), Failure> {
-    let mut output = BufWriter::new(rt.alloc(), io::writer(rt)).map_err(|_| Failure::Write)?;
-    let done = translate(input, &mut output);
-    let _ = output.into_parts();
-    done
+    flush_all(out, cable)
 }
 
 fn main(rt: HostRuntime) {
-    if let Err(failure) = run(&rt, &mut rt.stdin()) {
+    let mut out = Out::new(rt.stdout());
+    if let Err(failure) = translate(&mut rt.stdin(), &mut out) {
         let _ = eprintln!(rt; "midi2: {failure}");
     }
 }
