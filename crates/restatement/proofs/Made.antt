@@ -26,7 +26,7 @@ use Rattle.mpe_sender.specs.Writers.{control_word, mcm_messages, mode_on, mode_m
 use Rattle.mpe_sender.proofs.Zones.{lowest-lt}
 use Rattle.zone_sender.specs.Zone.{group_size, zone_groups, zone_words, fill_reply, zone_reply, filled, written_read}
 use Rattle.zone_sender.proofs.Groups.{groups-length}
-use Rattle.settings.specs.Settings.{zone_of, members_in, is_mono, bend_on, pressure_on, brightness_on, allowed}
+use Rattle.settings.specs.Settings.{zone_of, members_in, is_mono, shown_sensitivity, shown_mode, bend_on, pressure_on, brightness_on, allowed}
 use Rattle.settings.specs.Messages.{announcement, sensitivities, modes, controls_on, words_in, count_in}
 use Rattle.settings.specs.declared.Settings.{Settings}
 use Rattle.settings.proofs.Allowed.{allowed-legal, allowed-zone, allowed-channel}
@@ -79,7 +79,7 @@ mode-on s zone false h some = control-made (lowest_of s.layout zone) 127 0 (lowe
 
 -- D
 pub mode-made : (s : Settings) (zone : MpeZone) → allowed s ≡ true
-    → words_in (all_of (mode_message s.layout zone (is_mono (zone_of s zone)) ∷ [])) ≡ modes s zone
+    → words_in (all_of (mode_message s.layout zone (eqb (shown_mode s zone) 4) ∷ [])) ≡ modes s zone
 unfolding modes
 mode-made s zone h =
     let g = allowed-legal s h in
@@ -89,8 +89,8 @@ mode-made s zone h =
 
 -- C: how many words are written, and the buffer
 pub record Written (s : Settings) (zone : MpeZone) (got : ℕ) : Type 0 where
-  pub count : count_in (zone_reply s.layout zone (zone_of s zone).manager (zone_of s zone).member got) ≡ length (sensitivities s zone)
-  pub buffer : (part : List ℕ) → filled (zone_reply s.layout zone (zone_of s zone).manager (zone_of s zone).member got) (zone_words s.layout zone (zone_of s zone).manager (zone_of s zone).member) part
+  pub count : count_in (zone_reply s.layout zone (shown_sensitivity s zone true) (shown_sensitivity s zone false) got) ≡ length (sensitivities s zone)
+  pub buffer : (part : List ℕ) → filled (zone_reply s.layout zone (shown_sensitivity s zone true) (shown_sensitivity s zone false) got) (zone_words s.layout zone (shown_sensitivity s zone true) (shown_sensitivity s zone false)) part
       ≡ sensitivities s zone ++ drop (length (sensitivities s zone)) part
 
 sensitivities-made : (s : Settings) (zone : MpeZone) (got : ℕ) → allowed s ≡ true → length (sensitivities s zone) ≤ got → Written s zone got
@@ -106,9 +106,11 @@ sensitivities-made s zone got h l =
     groups-length (zone_groups (manager_of zone) (lowest_of s.layout zone) (zone_of s zone).manager (zone_of s zone).member) (members_in s zone + 1) in
     let f : length (zone_words s.layout zone (zone_of s zone).manager (zone_of s zone).member) ≤ got = rw e at l in
     let fits : m ≤ got = rw n at f in
+    let manager : shown_sensitivity s zone true ≡ (zone_of s zone).manager = rw e in
+    let member : shown_sensitivity s zone false ≡ (zone_of s zone).member = rw e in
     record {
-      count = rw (g, e, z.0, z.1, le-ltb got m fits) (sym n);
-      buffer = λ part. rw (g, e, z.0, z.1, le-ltb got m fits, n);
+      count = rw (manager, member, g, e, z.0, z.1, le-ltb got m fits) (sym n);
+      buffer = λ part. rw (manager, member, g, e, z.0, z.1, le-ltb got m fits, n);
     })
 
 -- the same for a part of a buffer from a place on

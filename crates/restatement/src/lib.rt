@@ -6,12 +6,13 @@ ghost use Rattle.std.proofs.lemmas.List.Edits.{sets};
 ghost use Rattle.ump.specs.Outcome.{given};
 ghost use Rattle.mpe_layout.specs.Layout.{legal};
 ghost use Rattle.zone_sender.specs.Zone.{filled, written_read};
-ghost use Rattle.settings.specs.Settings.{zone_of, allowed};
+ghost use Rattle.settings.specs.Settings.{zone_of, members_in, shown_sensitivity, shown_mode, allowed};
 ghost use Rattle.settings.specs.Messages.{resets, announcements, sensitivities, modes, deselections, controls, messages, bytes_of, bytes, restatement, message_count, byte_count, restated_reply, CountsHold};
 ghost use Rattle.settings.specs.Demand.{Demand};
 ghost use Rattle.settings.specs.Witnesses.{Met};
 
 use mpe_layout::{MpeLayout, MpeZone};
+use mpe_pitch::MpeSensitivity;
 use mpe_sender::{channel_messages, mcm_messages, mode_message};
 use restatement_reply::{bytes_reply, words_reply};
 use settings::{Settings, ZoneSettings};
@@ -73,21 +74,49 @@ impl Restated {
         }
     }
 
+    // How many members a zone has.
+    fn members(self, zone: MpeZone) -> u8
+        ensures { result ≡ members_in self.settings zone }
+    {
+        match zone {
+            MpeZone::Lower => self.settings.layout.lower,
+            MpeZone::Upper => self.settings.layout.upper,
+        }
+    }
+
+    // The sensitivity of a zone's manager or members that an end shows after a restatement: the one that is set, or without members the default.
+    fn shown_sensitivity(self, zone: MpeZone, manager: bool) -> MpeSensitivity
+        ensures { result ≡ shown_sensitivity self.settings zone manager }
+    {
+        let set = self.zone(zone);
+        match (self.members(zone), manager) {
+            (0, true) => MpeSensitivity::MANAGER_DEFAULT,
+            (0, false) => MpeSensitivity::MEMBER_DEFAULT,
+            (_, true) => set.manager,
+            (_, false) => set.member,
+        }
+    }
+
+    // The mode of a zone that an end shows after a restatement: the one that is set, or without members 3.
+    fn shown_mode(self, zone: MpeZone) -> u8
+        ensures { result ≡ shown_mode self.settings zone }
+    {
+        if self.members(zone) == 0 {
+            return 3;
+        }
+        self.zone(zone).mode
+    }
+
     // C. The sensitivities of a zone, if it has members; gives the place after them.
     fn write_sensitivities(self, out: &mut [u32], at: usize, zone: MpeZone) -> usize
         requires { at + length (sensitivities self.settings zone) ≤ length out.old }
         ensures place { result ≡ at + length (sensitivities self.settings zone) }
         ensures buffer { out.new ≡ sets out.old at (sensitivities self.settings zone) }
     {
-        let set = self.zone(zone);
+        let manager = self.shown_sensitivity(zone, true);
+        let member = self.shown_sensitivity(zone, false);
         let part = &mut out[at..];
-        let written = zone_sensitivity_messages(
-            self.settings.layout,
-            zone,
-            set.manager,
-            set.member,
-            part,
-        );
+        let written = zone_sensitivity_messages(self.settings.layout, zone, manager, member, part);
         // An empty zone is out of range to its writer, and nothing is written.
         at + written.unwrap_or(0)
     }
@@ -98,7 +127,7 @@ impl Restated {
         ensures place { result ≡ at + length (modes self.settings zone) }
         ensures buffer { out.new ≡ sets out.old at (modes self.settings zone) }
     {
-        let mono = self.zone(zone).mode == 4;
+        let mono = self.shown_mode(zone) == 4;
         match mode_message(self.settings.layout, zone, mono) {
             Ok(message) => put(out, at, [message]),
             Err(OutOfRange) => at,
