@@ -3,11 +3,13 @@
 use Rattle.std.proofs.Common.{◌≡◌, ℕ, ◌/◌, ◌%◌, ◌<◌, ◌≤◌, List, [], ◌∷◌, true, refl, inl, arith}
 use Rattle.std.proofs.lemmas.Grind.{common_steps}
 use Rattle.std.proofs.lemmas.Bool.Decides.{nat_tests}
-use Rattle.ump.specs.Word.{one_data}
+use Rattle.ump.specs.Field.{field}
+use Rattle.ump.specs.Word.{one_data, word_form}
 use Rattle.ump.proofs.Cases.{by-test}
 use Rattle.ump.proofs.Words.{PartsFit, group-of-word, form-of-word}
 use Rattle.byte_reader.specs.declared.Reader.{Reader}
 use Rattle.byte_reader.specs.declared.Read.TheVariants.{Message}
+use Rattle.byte_reader.specs.declared.ReadStep.{ReadStep}
 use Rattle.byte_reader.specs.Reader.{new_reader, class_of_byte, message_word, data_step, read_step, read_all, Sound, WordsFormed}
 
 -- a word of a running status s and data bytes; opcodes C and D have one
@@ -61,15 +63,28 @@ unfolding read_all
 sound-after r [] s = s
 sound-after r (b ∷ l) s = sound-after (read_step r b).reader l (step-sound r b s)
 
+-- what holds of a step: the reader is sound, and a word that is made has its form
+pub record Fine (x : ReadStep) : Type 0 where
+  pub sound : Sound x.reader
+  pub formed : (w : ℕ) → x.read ≡ Message w → (word_form w ≡ true) × (field 24 4 w ≡ 0)
+
+pub step-fine : (r : Reader) (b : ℕ) → Sound r → Fine (read_step r b)
+step-fine r b s =
+    record {
+      sound = step-sound r b s;
+      formed = λ w e.
+          let p = word-read r b w e in
+          let below : r.status < 0xF0 = grind (arith, p.running, s.status_sound) in
+          let running = p.running in
+          let first = p.first-lt in
+          let second = p.second-lt in
+          let fit : PartsFit 0 (r.status / 16) (r.status % 16) p.first p.second =
+          record { group-lt = omega arith; opcode-lt = omega arith; channel-lt = omega arith; first-lt = first; second_lt = second } in
+          rw p.is (
+            form-of-word 0 (r.status / 16) (r.status % 16) p.first p.second fit (omega arith) (omega arith) p.one,
+            group-of-word 0 (r.status / 16) (r.status % 16) p.first p.second fit,
+          );
+    }
+
 pub words-formed : WordsFormed new_reader
-words-formed l b w e =
-    let r = read_all new_reader l in
-    let p = word-read r b w e in
-    let s = sound-after new_reader l new-sound in
-    let below : r.status < 0xF0 = grind (arith, p.running, s.status_sound) in
-    let running = p.running in
-    let first = p.first-lt in
-    let second = p.second-lt in
-    let fit : PartsFit 0 (r.status / 16) (r.status % 16) p.first p.second =
-    record { group-lt = omega arith; opcode-lt = omega arith; channel-lt = omega arith; first-lt = first; second_lt = second } in
-    rw p.is (form-of-word 0 (r.status / 16) (r.status % 16) p.first p.second fit (omega arith) (omega arith) p.one, group-of-word 0 (r.status / 16) (r.status % 16) p.first p.second fit)
+words-formed l b = (step-fine (read_all new_reader l) b (sound-after new_reader l new-sound)).formed

@@ -7,7 +7,7 @@ use crate::reply::OutOfRange;
 
 // A number of a packet with 4 bits: packet values 0 to 15, which people count from 1 to 16.
 pub trait PacketNumber: Copy + Drop {
-    // The packet value.
+    // The number that is held; the packet value is its low 4 bits.
     ghost index_of: { Self → ℕ };
 
     // The one for the low 4 bits of `value`.
@@ -16,7 +16,7 @@ pub trait PacketNumber: Copy + Drop {
 
     // The packet value, 0 to 15.
     fn index(self) -> u8
-        ensures { (result ≡ index_of self) × (result < 16) };
+        ensures { (result ≡ packet_value (index_of self)) × (result < 16) };
 
     // The one with packet value `index`, 0 to 15.
     fn new(index: u8) -> Result<Self, OutOfRange>
@@ -40,14 +40,14 @@ pub trait PacketNumber: Copy + Drop {
 
     // The user-facing number, 1 to 16.
     fn number(self) -> u8
-        ensures { result ≡ index_of self + 1 }
+        ensures { result ≡ packet_value (index_of self) + 1 }
     {
         self.index() + 1
     }
 
     // The 4-bit field value.
     fn into_bits(self) -> u8
-        ensures { (result ≡ index_of self) × (result < 16) }
+        ensures { (result ≡ packet_value (index_of self)) × (result < 16) }
     {
         self.index()
     }
@@ -58,7 +58,7 @@ pub trait PacketNumber: Copy + Drop {
 pub struct Group(u8);
 
 impl PacketNumber for Group {
-    ghost index_of = { λ group. packet_value group.0 };
+    ghost index_of = { λ group. group.0 };
 
     fn from_bits(value: u8) -> Group {
         Group(value % 16)
@@ -74,7 +74,7 @@ impl PacketNumber for Group {
 pub struct Channel(u8);
 
 impl PacketNumber for Channel {
-    ghost index_of = { λ channel. packet_value channel.0 };
+    ghost index_of = { λ channel. channel.0 };
 
     fn from_bits(value: u8) -> Channel {
         Channel(value % 16)
