@@ -20,7 +20,7 @@ pub enum SetupError {
     OutOfOrder,
 }
 
-// The entry of a zone.
+// The entry of a zone. Its number stays a byte: it is held before it is tested, and an MpeZone holds no other than 0 and 1.
 #[derive(Clone, Copy)]
 struct ZoneEntry {
     number: u8,
@@ -101,31 +101,6 @@ fn channel_entry_within(entry: ChannelEntry) -> bool
         && entry.brightness <= 127
 }
 
-// The whole entry is inside its limits.
-fn entry_within(section: Section, bytes: &[u8]) -> bool
-    requires { entry_size section ≤ length bytes.now }
-    ensures { result ≡ entry_within section bytes.now }
-{
-    match section {
-        Section::Zones => zone_entry_within(zone_entry_in(bytes)),
-        Section::Channels => channel_entry_within(channel_entry_in(bytes)),
-    }
-}
-
-// The whole entry, inside its limits, is one that is not listed.
-fn is_unlisted(section: Section, bytes: &[u8]) -> bool
-    requires { (entry_size section ≤ length bytes.now) × (entry_within section bytes.now ≡ true) }
-    ensures { result ≡ unlisted section bytes.now }
-{
-    match section {
-        Section::Zones => zone_entry_in(bytes).members == 0,
-        Section::Channels => {
-            let entry = channel_entry_in(bytes);
-            at_rest(bend_in(entry), entry.pressure, entry.brightness)
-        }
-    }
-}
-
 // Settings with a zone in the place of the one that they had.
 fn with_zone(entry: ZoneEntry, settings: Settings) -> Settings
     ensures { result ≡ with_zone entry.number entry.members entry.zone settings }
@@ -154,16 +129,51 @@ fn with_channel(entry: ChannelEntry, bend: u16, settings: Settings) -> Settings
     s
 }
 
-// Settings with what the whole entry, inside its limits, says.
-fn with_entry(section: Section, bytes: &[u8], settings: Settings) -> Settings
-    requires { (entry_size section ≤ length bytes.now) × (entry_within section bytes.now ≡ true) }
-    ensures { result ≡ settings_with section bytes.now settings }
-{
-    match section {
-        Section::Zones => with_zone(zone_entry_in(bytes), settings),
-        Section::Channels => {
-            let entry = channel_entry_in(bytes);
-            with_channel(entry, bend_in(entry), settings)
+// A whole entry, at the front of these bytes.
+// Its methods read the fields that they need from the bytes: those of a zone and those of a channel have but the number alike.
+#[derive(Clone, Copy)]
+struct Entry<'a> {
+    section: Section,
+    bytes: &'a [u8],
+    ghost is_whole: { entry_size section ≤ length bytes.now },
+}
+
+impl Entry<'_> {
+    // It is inside its limits.
+    fn is_within(self) -> bool
+        ensures { result ≡ entry_within self.entry.section self.entry.bytes.now }
+    {
+        match self.section {
+            Section::Zones => zone_entry_within(zone_entry_in(self.bytes)),
+            Section::Channels => channel_entry_within(channel_entry_in(self.bytes)),
+        }
+    }
+
+    // Inside its limits, it is one that is not listed.
+    fn is_unlisted(self) -> bool
+        requires { entry_within self.section self.bytes.now ≡ true }
+        ensures { result ≡ unlisted self.entry.section self.entry.bytes.now }
+    {
+        match self.section {
+            Section::Zones => zone_entry_in(self.bytes).members == 0,
+            Section::Channels => {
+                let entry = channel_entry_in(self.bytes);
+                at_rest(bend_in(entry), entry.pressure, entry.brightness)
+            }
+        }
+    }
+
+    // Settings with what it says, inside its limits.
+    fn settings_with(self, settings: Settings) -> Settings
+        requires { entry_within self.section self.bytes.now ≡ true }
+        ensures { result ≡ settings_with self.entry.section self.entry.bytes.now settings }
+    {
+        match self.section {
+            Section::Zones => with_zone(zone_entry_in(self.bytes), settings),
+            Section::Channels => {
+                let entry = channel_entry_in(self.bytes);
+                with_channel(entry, bend_in(entry), settings)
+            }
         }
     }
 }
@@ -183,11 +193,12 @@ pub fn take_entry(
     if bytes.len() < entry_size(section) {
         return Err(SetupError::WrongLength);
     }
-    if !entry_within(section, bytes) {
+    let entry = Entry { section, bytes };
+    if !entry.is_within() {
         return Err(SetupError::OutOfRange);
     }
-    if bytes[0] < least || is_unlisted(section, bytes) {
+    if bytes[0] < least || entry.is_unlisted() {
         return Err(SetupError::OutOfOrder);
     }
-    Ok(with_entry(section, bytes, settings))
+    Ok(entry.settings_with(settings))
 }

@@ -13,6 +13,7 @@ pub enum Section {
 }
 
 // The largest count of a section.
+// `most_entries` and `entry_size` stay two: no caller asks both, and a record of them would state the same two clauses of its fields.
 pub fn most_entries(section: Section) -> u8
     ensures { result ≡ most section }
 {

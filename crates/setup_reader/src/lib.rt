@@ -22,6 +22,7 @@ struct Progress<'a> {
 }
 
 // So many entries: the settings with what they say, and the bytes after them.
+// `k` has its name for the proof, whose invariant counts by it the entries that are left.
 fn read_entries(section: Section, count: u8, from: Progress<'_>) -> Result<Progress<'_>, SetupError>
     ensures { progress_read result ≡ entries_read section count 0 from.entry.settings from.entry.rest.now }
 {
@@ -94,9 +95,9 @@ fn read_file(file: &[u8]) -> Result<Progress<'_>, SetupError>
     read_label(channels)
 }
 
-// The settings of a setup file, or why it is refused; of a file that is refused, `settings` has new settings. What the other clauses say is of all files:
-// the writer's form is the only one that is taken (`form`); the fields that it says are those that the readings show (`seen`); the leftmost fault decides
-// (`leftmost`); and of this one what a course relies on (`course`). `examples` has some files and their replies.
+// The settings of a setup file, or why it is refused; the clause `settings` takes new settings in the place of a refusal. What the other clauses say is of all
+// files: the writer's form is the only one that is taken (`form`); the fields that it says are those that the readings show (`seen`); the leftmost fault
+// decides (`leftmost`); and of this one what a course relies on (`course`). `examples` has some files and their replies.
 pub fn setup_settings(file: &[u8]) -> Result<Settings, SetupError>
     ensures reply { setup_read result ≡ settings_in (file_read file.now) }
     ensures settings { result_unwrap_or result new_settings ≡ settings_or_new (file_read file.now) }

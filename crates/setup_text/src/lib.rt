@@ -20,6 +20,7 @@ pub enum Field {
 }
 
 // How many words a line has.
+// It stays apart from the numbers of a section in setup_file: words are of the text form alone.
 pub fn field_count(section: Section) -> usize
     ensures { result ≡ length (line_fields section) }
 {

@@ -42,6 +42,7 @@ struct Progress<'a> {
 }
 
 // The number that 1 to 5 decimal digits say.
+// The digits are read here: std's `parse` is of a `str`, which would be tested first, and takes a sign, which would be tested too.
 fn number_said(word: &[u8]) -> Option<u32>
     ensures { said_read result ≡ number_read word.now }
 {
@@ -98,6 +99,7 @@ fn field_said(field: Field, word: &[u8]) -> Option<u32>
 }
 
 // The numbers that the words of a line say, if it has the form of a section.
+// `count` stays beside the `for`: the test after the loop asks it, and `enumerate` would give each word's place besides.
 fn line_numbers(section: Section, line: &[u8]) -> Option<[u32; 8]>
     ensures { numbers_found section result ≡ fields_read (line_fields section) (line_words line.now) }
 {
@@ -188,6 +190,7 @@ fn entry_bytes(section: Section, numbers: [u32; 8]) -> [u8; 7]
 }
 
 // The first place of a section in the order of items.
+// It stays apart from the numbers of a section in setup_file: places are of the text form alone.
 fn first_place(section: Section) -> u8
     ensures { result ≡ first_place section }
 {
@@ -276,9 +279,10 @@ fn read_text(text: &[u8]) -> Result<Progress<'_>, TextError>
     Ok(progress)
 }
 
-// The settings that a text says, or its first faulty line and why it is refused; of a text that is refused, `settings` has new settings, and of one that is
-// read, `line` has line 0. What the other clauses say is of all texts: the text of a file says what the file says, and the file of a text what the text says
-// (`form`); the line that is named is the first at fault (`fault`); `examples` has some texts.
+// The settings that a text says, or its first faulty line and why it is refused. The clause `settings` takes new settings in the place of a refusal, and the
+// clause `line` takes 0 for the line of a text that is read. What the other clauses say is of all texts: the text of a file says what the file says, and the
+// file of a text what the text says (`form`); the line that is named is the first at fault (`fault`); `examples` has some texts.
+// It and `text_label` stay apart from setup_reader's `setup_settings` and `setup_label`: what is claimed of files is not what is claimed of texts.
 pub fn text_settings(text: &[u8]) -> Result<Settings, TextError>
     ensures reply { text_answered result ≡ settings_in (text_read text.now) }
     ensures line { fault_line result ≡ line_in (text_read text.now) }

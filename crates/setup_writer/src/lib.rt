@@ -18,6 +18,7 @@ use setup_file::{Section, at_rest, label_allowed, most_entries};
 use zone_sender::WriteError;
 
 // The members of zone 0, Lower, or 1, Upper, and what is set for it.
+// The zone stays a number: it is the first byte of the entry, and counts the channels too; an MpeZone would be one conversion more.
 fn zone_numbered(settings: Settings, number: u8) -> (u8, ZoneSettings)
     ensures members { result.0 ≡ members_in settings (zone_numbered number) }
     ensures zone { result.1 ≡ zone_of settings (zone_numbered number) }
@@ -29,6 +30,7 @@ fn zone_numbered(settings: Settings, number: u8) -> (u8, ZoneSettings)
 }
 
 // The entry of a number is not listed: a zone without members, a channel at rest.
+// `number < most section` stays in three contracts: a struct of section and number would be made, and its fact proved, in each of the two loops.
 fn is_unlisted(section: Section, settings: Settings, number: u8) -> bool
     requires { number < most section }
     ensures { result ≡ unlisted section (entry_of section settings number) }
@@ -47,6 +49,7 @@ fn is_unlisted(section: Section, settings: Settings, number: u8) -> bool
 }
 
 // How many entries a section has.
+// The loop stays: `filter` and `count` give a usize, and its cast to the byte would need the bound of the count besides.
 #[tactic(auto, using(crate::proofs::Entries::count_listed, crate::proofs::Entries::count_unlisted, crate::proofs::Entries::count_at_most), unfolding(setup_file::specs::Format::entries_from))]
 fn entry_count(section: Section, settings: Settings) -> u8
     ensures { result ≡ length (entries_of section settings) }
@@ -81,22 +84,6 @@ fn zone_entry(settings: Settings, number: u8) -> [u8; 7]
     ]
 }
 
-// The entry of a channel.
-fn channel_entry(settings: Settings, number: u8) -> [u8; 5]
-    requires { (number < 16) × (allowed settings ≡ true) }
-    ensures { result ≡ entry_of Channels settings number }
-{
-    let k = number as usize;
-    let bend = settings.pitch_bend[k];
-    [
-        number,
-        (bend / 128) as u8,
-        (bend % 128) as u8,
-        settings.pressure[k],
-        settings.brightness[k],
-    ]
-}
-
 // Puts bytes at a place, and gives the place after them. `out` and `at` stay two: a struct of both would hold the `&mut`, and no contract be shorter.
 fn put(out: &mut [u8], at: usize, bytes: &[u8]) -> usize
     requires { at + length bytes.now ≤ length out.old }
@@ -108,42 +95,67 @@ fn put(out: &mut [u8], at: usize, bytes: &[u8]) -> usize
     end
 }
 
-// Puts the entry of a number at a place, and gives the place after it.
-fn put_entry(out: &mut [u8], at: usize, section: Section, settings: Settings, number: u8) -> usize
-    requires { (number < most section) × (allowed settings ≡ true) × (at + entry_size section ≤ length out.old) }
-    ensures place { result ≡ at + entry_size section }
-    ensures buffer { out.new ≡ sets out.old at (entry_of section settings number) }
-{
-    match section {
-        Section::Zones => put(out, at, &zone_entry(settings, number)),
-        Section::Channels => put(out, at, &channel_entry(settings, number)),
-    }
+// Settings that may be written.
+#[derive(Clone, Copy)]
+struct Writable {
+    settings: Settings,
+    ghost is_allowed: { allowed settings ≡ true },
 }
 
-// The same if the entry is listed, and else nothing.
-#[tactic(auto, using(crate::proofs::Entries::unlisted_bytes, crate::proofs::Entries::listed_bytes, crate::proofs::Entries::entry_long))]
-fn put_listed(out: &mut [u8], at: usize, section: Section, settings: Settings, number: u8) -> usize
-    requires { (number < most section) × (allowed settings ≡ true) × (at + length (flatten (entries_from section settings number 1)) ≤ length out.old) }
-    ensures place { result ≡ at + length (flatten (entries_from section settings number 1)) }
-    ensures buffer { out.new ≡ sets out.old at (flatten (entries_from section settings number 1)) }
-{
-    if is_unlisted(section, settings, number) {
-        return at;
+impl Writable {
+    // The entry of a channel.
+    fn channel_entry(self, number: u8) -> [u8; 5]
+        requires { number < 16 }
+        ensures { result ≡ entry_of Channels self.settings number }
+    {
+        let k = number as usize;
+        let bend = self.settings.pitch_bend[k];
+        [
+            number,
+            (bend / 128) as u8,
+            (bend % 128) as u8,
+            self.settings.pressure[k],
+            self.settings.brightness[k],
+        ]
     }
-    put_entry(out, at, section, settings, number)
-}
 
-// Puts a section at a place, its count and its entries, and gives the place after it.
-fn put_section(out: &mut [u8], at: usize, section: Section, settings: Settings) -> usize
-    requires { (allowed settings ≡ true) × (at + length (section_of section settings) ≤ length out.old) }
-    ensures place { result ≡ at + length (section_of section settings) }
-    ensures buffer { out.new ≡ sets out.old at (section_of section settings) }
-{
-    let mut place = put(out, at, &[entry_count(section, settings)]);
-    for k in 0..most_entries(section) {
-        place = put_listed(out, place, section, settings, k);
+    // Puts the entry of a number at a place, and gives the place after it.
+    fn put_entry(self, out: &mut [u8], at: usize, section: Section, number: u8) -> usize
+        requires { (number < most section) × (at + entry_size section ≤ length out.old) }
+        ensures place { result ≡ at + entry_size section }
+        ensures buffer { out.new ≡ sets out.old at (entry_of section self.settings number) }
+    {
+        match section {
+            Section::Zones => put(out, at, &zone_entry(self.settings, number)),
+            Section::Channels => put(out, at, &self.channel_entry(number)),
+        }
     }
-    place
+
+    // The same if the entry is listed, and else nothing.
+    #[tactic(auto, using(crate::proofs::Entries::unlisted_bytes, crate::proofs::Entries::listed_bytes, crate::proofs::Entries::entry_long))]
+    fn put_listed(self, out: &mut [u8], at: usize, section: Section, number: u8) -> usize
+        requires { (number < most section) × (at + length (flatten (entries_from section self.settings number 1)) ≤ length out.old) }
+        ensures place { result ≡ at + length (flatten (entries_from section self.settings number 1)) }
+        ensures buffer { out.new ≡ sets out.old at (flatten (entries_from section self.settings number 1)) }
+    {
+        if is_unlisted(section, self.settings, number) {
+            return at;
+        }
+        self.put_entry(out, at, section, number)
+    }
+
+    // Puts a section at a place, its count and its entries, and gives the place after it.
+    fn put_section(self, out: &mut [u8], at: usize, section: Section) -> usize
+        requires { at + length (section_of section self.settings) ≤ length out.old }
+        ensures place { result ≡ at + length (section_of section self.settings) }
+        ensures buffer { out.new ≡ sets out.old at (section_of section self.settings) }
+    {
+        let mut place = put(out, at, &[entry_count(section, self.settings)]);
+        for k in 0..most_entries(section) {
+            place = self.put_listed(out, place, section, k);
+        }
+        place
+    }
 }
 
 // Puts a label at a place, its length and its bytes.
@@ -189,8 +201,9 @@ pub fn setup_bytes(settings: Settings, label: &[u8], out: &mut [u8]) -> Result<u
     ensures sizes { FileSizes }
 {
     let count = file_reply(settings, label, out.len())?;
-    let channels = put_section(out, 0, Section::Zones, settings);
-    let end = put_section(out, channels, Section::Channels, settings);
+    let writable = Writable { settings };
+    let channels = writable.put_section(out, 0, Section::Zones);
+    let end = writable.put_section(out, channels, Section::Channels);
     put_label(out, end, label);
     Ok(count)
 }

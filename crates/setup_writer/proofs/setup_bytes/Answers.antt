@@ -20,6 +20,9 @@ use Rattle.setup_writer.proofs.setup_bytes.Goals as goal
 pub returns-in_err-count-clause-sizes : goal.returns-in_err-count-clause-sizes
 returns-in_err-count-clause-sizes c = file-sizes
 
+pub invariant_of-writable : goal.invariant_of-writable
+invariant_of-writable c = record { is_allowed = (counted c.args.settings c.args.label.now _ _ c.in_ok-count.ensures).writable.settings_allowed }
+
 pub put_section-channels-requires : goal.put_section-channels-requires
 put_section-channels-requires c = let a = c.args in
     let s = a.settings in
@@ -28,7 +31,7 @@ put_section-channels-requires c = let a = c.args in
     let q = counted s l _ _ p in
     let f = q.fits in
     let z = parts-long s l in
-    (q.writable.settings_allowed, omega arith)
+    omega arith
 
 pub put_section-end-requires : goal.put_section-end-requires
 put_section-end-requires c = let a = c.args in
@@ -41,7 +44,7 @@ put_section-end-requires c = let a = c.args in
     let o = a.out.now in
     let e : length c.put_section-channels.new.out ≡ length o = ap length c.put_section-channels.ensures.buffer ∙ length-sets o 0 (section_of Zones s) in
     let n = c.put_section-channels.ensures.place in
-    (q.writable.settings_allowed, omega arith)
+    omega arith
 
 pub put_label-requires : goal.put_label-requires
 put_label-requires c = let a = c.args in

@@ -1,4 +1,4 @@
--- `setup_entry::is_unlisted` meets its contract: by the section.
+-- `setup_entry::Entry::is_unlisted` meets its contract: by the section.
 use Prim.Native.Nat.{ℕ, ◌+◌, ◌*◌, ◌/◌, ◌%◌, ◌^◌, ◌≤◌}
 use mathlib.Core.Bool.{true}
 use mathlib.Core.Path.{◌≡◌}
@@ -7,7 +7,7 @@ use lib.ListN.{get_or}
 use Rattle.setup_file.specs.Format.{entry_within, at_rest}
 use Rattle.setup_file.proofs.Entries.{channel-within}
 use Rattle.setup_file.specs.declared.Section.TheVariants.{Channels}
-use Rattle.setup_entry.proofs.is_unlisted.Goals as goal
+use Rattle.setup_entry.proofs.Entry.is_unlisted.Goals as goal
 
 -- the halves of a bend are those that it was made of
 halves : (msb lsb pressure brightness : ℕ) → lsb ≤ 127
@@ -18,8 +18,8 @@ halves msb lsb pressure brightness h =
     rw (m, l)
 
 pub returns-in-Channels : goal.returns-in-Channels
-returns-in-Channels c = let e : c.args.section ≡ Channels = c.in-Channels.is in
-    let b = c.args.bytes.now in
-    let w : entry_within Channels b ≡ true = rw e at c.requires.1 in
+returns-in-Channels c = let e : c.args.self.section ≡ Channels = c.in-Channels.is in
+    let b = c.args.self.bytes.now in
+    let w : entry_within Channels b ≡ true = rw e at c.requires in
     rw (e, c.at_rest.ensures, c.bend_in.ensures, c.channel_entry_in-entry.ensures)
     (halves (get_or b 1 0) (get_or b 2 0) (get_or b 3 0) (get_or b 4 0) (channel-within _ _ _ _ _ w).1)
