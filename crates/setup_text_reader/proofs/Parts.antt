@@ -1,7 +1,8 @@
 -- The parts of a text, one after the other, and the end behind the last.
 -- Assumes nothing.
 use Prim.Native.Nat.{ℕ, ◌+◌, ◌<◌}
-use mathlib.Core.Path.{◌≡◌, sym, ap₂, subst, ◌∙◌}
+use mathlib.Core.Path.{◌≡◌, sym, ap, ap₂, subst, ◌∙◌}
+use native.Mathlib.Omega.{arith}
 use mathlib.Core.List.{List, ◌∷◌}
 use native.Mathlib.Numerals.{add-one}
 use lib.Dec.{eqb}
@@ -9,9 +10,10 @@ use lib.ListN.{length, get_or, drop}
 use lib.Seq.{drop-cons}
 use denote.Ref.{Bor}
 use Rattle.std.specs.Prelude.{Option, Some, None}
-use Rattle.std.specs.List.{slice_split}
+use Rattle.std.specs.List.{slice_split, enumerate_from}
 use Rattle.std.specs.Iterator.{Yields}
 use Rattle.std.proofs.lemmas.Iterator.{YieldsList}
+use Rattle.std.proofs.lemmas.List.FromFn.{length-enumerate_from, get_or-enumerate_from}
 use Rattle.std.proofs.lemmas.Iterator.Consumers.{YieldsList-turn, YieldsList-end}
 use Rattle.setup_text.specs.Parse.{parts_at}
 
@@ -30,3 +32,22 @@ module _ {S : Type 0} {steps : S → Option (Bor (List ℕ)) → S → Type 0} {
   pub part-end : r ≡ None → steps t r u → length xs ≡ length (parts_at stop l)
   unfolding parts_at
   part-end is step = (YieldsList-end e xs t (subst (λ j. Yields steps j xs t) same y) r u is step).1
+
+-- the same of parts that are numbered from 0
+module _ {S : Type 0} {steps : S → Option (ℕ × Bor (List ℕ)) → S → Type 0} {s i : S} (stop : ℕ) (l : List ℕ)
+    (e : YieldsList {B = ℕ × List ℕ} steps (λ p. (p.0, p.1.now)) s (enumerate_from 0 (slice_split (λ b. eqb b stop) l))) (same : i ≡ s)
+    (xs : List (ℕ × Bor (List ℕ))) (t : S) (y : Yields steps i xs t) (r : Option (ℕ × Bor (List ℕ))) (u : S) where
+  pub numbered-turn : (k : ℕ) (x : Bor (List ℕ)) → r ≡ Some (k, x) → steps t r u → (k ≡ length xs) × (drop (length xs) (parts_at stop l) ≡ x.now ∷ drop (length xs + 1) (parts_at stop l))
+  unfolding parts_at
+  numbered-turn k x is step =
+      let all = slice_split (λ b. eqb b stop) l in
+      let h = YieldsList-turn e xs t (subst (λ j. Yields steps j xs t) same y) r u (k, x) is step in
+      let n : length xs < length all = omega (arith, h.0, length-enumerate_from 0 all) in
+      let p = h.1 ∙ get_or-enumerate_from 0 all (length xs) (k, x.now) n in
+      let q : k ≡ 0 + length xs = ap (λ j. j.0) p in
+      (omega (arith, q), next all (length xs) x.now n (ap (λ j. j.1) p))
+
+  pub numbered-end : r ≡ None → steps t r u → length xs ≡ length (parts_at stop l)
+  unfolding parts_at
+  numbered-end is step =
+      (YieldsList-end e xs t (subst (λ j. Yields steps j xs t) same y) r u is step).1 ∙ length-enumerate_from 0 (slice_split (λ b. eqb b stop) l)

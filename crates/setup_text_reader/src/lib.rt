@@ -263,14 +263,12 @@ fn read_text(text: &[u8]) -> Result<Progress<'_>, TextError>
         label: &text[..0],
         least: 0,
     };
-    let mut number: usize = 0;
-    for line in text.split(|b| *b == b'\n') {
-        number += 1;
+    for (k, line) in text.split(|b| *b == b'\n').enumerate() {
         progress = match read_line(line, progress) {
             Ok(next) => next,
             Err(refusal) => {
                 return Err(TextError {
-                    line: number,
+                    line: k + 1,
                     refusal,
                 });
             }

@@ -6,6 +6,6 @@ use Rattle.setup_text.specs.Parse.{text_lines, lines_read, text_read}
 use Rattle.setup_text_reader.specs.Progress.{said_so_far}
 use Rattle.setup_text_reader.proofs.read_text.Given as goal
 
-abbrev pub invariant-loop-line : goal.invariant-loop-line
-invariant-loop-line l =
-    (l.number ≡ length l.yielded) × (lines_read (suc (length l.yielded)) (said_so_far l.progress) (drop (length l.yielded) (text_lines l.text)) ≡ text_read l.text)
+abbrev pub invariant-loop-k : goal.invariant-loop-k
+invariant-loop-k l =
+    lines_read (suc (length l.yielded)) (said_so_far l.progress) (drop (length l.yielded) (text_lines l.text)) ≡ text_read l.text
