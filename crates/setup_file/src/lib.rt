@@ -34,6 +34,7 @@ pub fn entry_size(section: Section) -> usize
 }
 
 // A channel is at bend 0x2000, pressure 0 and brightness 64.
+// The three stay parameters: settings hold them in three arrays and an entry as bytes, and each caller would make a struct of them for this alone.
 #[tactic(auto, using(crate::proofs::Rest::rest_of_bend))]
 pub fn at_rest(bend: u16, pressure: u8, brightness: u8) -> bool
     ensures { result ≡ at_rest (bend / 2 ^ 7) (bend % 2 ^ 7) pressure brightness }
