@@ -64,7 +64,7 @@ fn listen(input: &mut impl Read, out: &mut Out, cable: Cable) -> Result<Option<C
     Ok(Some(next))
 }
 
-// A proved loop has to end, and nothing says that the input does: it counts its reads, to a number that no run uses up.
+// A proved loop has to end, and nothing says that the input does: the loop counts its reads, up to a number that no run reaches.
 fn translate(input: &mut impl Read, out: &mut Out) -> Result<(), Failure> {
     let mut cable = Cable::new();
     for _ in 0..u64::MAX {

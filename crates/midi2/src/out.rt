@@ -6,6 +6,7 @@ use std::io::{Stdout, Write};
 
 // Where the bytes go, and those that wait in the buffer.
 // They stand in an array with their count beside: a BufWriter asks for memory, and no run is to end for want of it.
+// The buffer of `replay` is another: after a failed write that one goes on, and says so where it is asked; this one stops there, by its Result.
 #[derive(Drop)]
 pub(crate) struct Out {
     to: Stdout,
@@ -23,7 +24,7 @@ impl Out {
         }
     }
 
-    // Writes what waits, and lets go of it.
+    // Writes what waits, and empties the buffer, also where it cannot be written.
     pub(crate) fn flush(&mut self) -> Result<(), Failure>
         ensures { self.new.waiting ≡ 0 }
     {

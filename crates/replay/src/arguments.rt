@@ -5,7 +5,7 @@ use parameter_event::{Parameter, ParameterChange, ParameterEvent};
 use settings::{Settings, ZoneSettings};
 use ump::controller::Rpn;
 
-// The operation, and the bytes that are not taken yet.
+// The operation, and the bytes that are not taken yet. It stays the number of the trace: an enum would only repeat the numbers that each file of items has.
 #[derive(Clone, Copy)]
 pub(crate) struct Item<'a> {
     pub(crate) operation: u8,

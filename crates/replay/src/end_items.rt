@@ -19,7 +19,8 @@ impl Answer for Reply {
     }
 }
 
-// The end after a byte, and the answer.
+// The end after a byte, and the answer. The translator's and the receiver's are of other types (`translated`, `set_layout`): a trait for them would be longer
+// than they are.
 fn stepped(end: &mut End, stepped: Stepped, out: &mut Out) {
     *end = stepped.end;
     stepped.reply.write(out);

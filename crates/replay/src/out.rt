@@ -5,6 +5,7 @@ use std::fmt;
 use std::io::{Stdout, Write};
 
 // Where the text goes, the bytes that wait in the buffer, and whether every write so far succeeded.
+// A flag and no Result: after a failed write the rest of what was read is still answered, and the run asks then. The buffer of `midi2` differs: it stops there.
 // The bytes stand in an array with their count beside: a BufWriter writes again what a failed write left, and asks for memory.
 #[derive(Drop)]
 pub(crate) struct Out {

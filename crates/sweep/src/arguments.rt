@@ -13,7 +13,7 @@ enum Argument {
     Other,
 }
 
-// The number that digits say, if there are any and it is at most 127.
+// The number that digits say, if there are any and it is at most 127. Not by `parse`, which takes a `+` before them too.
 fn number(text: &[u8]) -> Option<u8> {
     if text.is_empty() {
         return None;
