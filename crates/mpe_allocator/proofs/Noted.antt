@@ -16,7 +16,7 @@ use Rattle.mpe_layout.specs.declared.MemberError.TheVariants as member_error
 use Rattle.mpe_allocator.specs.Choice.{mark_of, Foremost, Chosen, choice}
 use Rattle.mpe_allocator.specs.Allocator.{with_reply, placed_on, Placed, AllocatedAs, illegal, empty, placed, allocation_of}
 use Rattle.mpe_allocator.specs.Claims.{OfChannel, ChosenIsMember, OneChosen, RecallChosen, LeastChosen, OnlyTiesTurned}
-use Rattle.mpe_allocator.specs.Calls.{note_on, note_reply, CallGives}
+use Rattle.mpe_allocator.specs.Calls.{note_on, note_reply, AllocatorGives}
 use Rattle.mpe_allocator.proofs.Search.{only_one, choice-foremost}
 use Rattle.mpe_allocator.proofs.Read.{chosen-is-member, one-chosen, recall-chosen, least-chosen, only-ties-turned}
 
@@ -92,13 +92,13 @@ module _ (a : MpeNoteAllocator) (l : MpeLayout) (zone : MpeZone) (note : ℕ) wh
   Promised r =
       AllocatedAs a l zone note (member_found r.reply) r.allocator
       × ((r ≡ allocation_of a l zone note)
-      × (CallGives a (note_on l zone note) (note_reply r.reply) r.allocator
+      × (AllocatorGives a (note_on l zone note) (note_reply r.reply) r.allocator
       × (OfChannel r.reply (ChosenIsMember l zone)
       × (OfChannel r.reply (OneChosen a l zone note)
       × (OfChannel r.reply (RecallChosen a l zone note)
       × (OfChannel r.reply (LeastChosen a l zone note) × OfChannel r.reply (OnlyTiesTurned a l zone note)))))))
 
-  listed : (r : Allocation) → r ≡ allocation_of a l zone note → CallGives a (note_on l zone note) (note_reply r.reply) r.allocator
+  listed : (r : Allocation) → r ≡ allocation_of a l zone note → AllocatorGives a (note_on l zone note) (note_reply r.reply) r.allocator
   listed r e = (ap (λ (x : Allocation). note_reply x.reply) e, ap (λ (x : Allocation). x.allocator) e)
 
   in-illegal : legal l ≡ false → Promised (with_reply a (Err member_error.OutOfRange))

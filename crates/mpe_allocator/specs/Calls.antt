@@ -44,8 +44,8 @@ after_call a (set_same_note on) = with_option a on
 after_call a reset = emptied a.same_note
 
 -- a call gives this answer and leaves this allocator: what the contract of each call says
-abbrev pub CallGives : MpeNoteAllocator → AllocatorCall → AllocatorAnswer → MpeNoteAllocator → Type 0
-CallGives a call answer left = (answer ≡ answer_of a call) × (left ≡ after_call a call)
+abbrev pub AllocatorGives : MpeNoteAllocator → AllocatorCall → AllocatorAnswer → MpeNoteAllocator → Type 0
+AllocatorGives a call answer left = (answer ≡ answer_of a call) × (left ≡ after_call a call)
 
 unfoldable pub after_calls : MpeNoteAllocator → List AllocatorCall → MpeNoteAllocator
 after_calls a [] = a

@@ -7,7 +7,7 @@ ghost use Rattle.ump.specs.Choice.{when◌then◌else◌};
 ghost use Rattle.mpe_layout.specs.Layout.{member_found};
 ghost use Rattle.mpe_allocator.specs.Choice.{held_on, tie_first, smaller_first, recalls};
 ghost use Rattle.mpe_allocator.specs.Allocator.{emptied, Placed, AllocatedAs, allocation_of, without_note, with_option};
-ghost use Rattle.mpe_allocator.specs.Calls.{note_on, note_off, active_notes, same_note, set_same_note, reset, note_reply, count, option, nothing, CallGives, CountsSum};
+ghost use Rattle.mpe_allocator.specs.Calls.{note_on, note_off, active_notes, same_note, set_same_note, reset, note_reply, count, option, nothing, AllocatorGives, CountsSum};
 ghost use Rattle.mpe_allocator.specs.Examples.{AllocatesAsTabled};
 ghost use Rattle.mpe_allocator.specs.Stored.{AlwaysStored};
 ghost use Rattle.mpe_allocator.specs.Filling.{FillsFromManager};
@@ -116,7 +116,7 @@ impl MpeNoteAllocator {
     pub fn note_on(self, layout: MpeLayout, zone: MpeZone, note: u8) -> Allocation
         ensures chosen { AllocatedAs self layout zone note (member_found result.reply) result.allocator }
         ensures is { result ≡ allocation_of self layout zone note }
-        ensures listed { CallGives self (note_on layout zone note) (note_reply result.reply) result.allocator }
+        ensures listed { AllocatorGives self (note_on layout zone note) (note_reply result.reply) result.allocator }
         ensures member { OfChannel result.reply (ChosenIsMember layout zone) }
         ensures one { OfChannel result.reply (OneChosen self layout zone note) }
         ensures recall { OfChannel result.reply (RecallChosen self layout zone note) }
@@ -140,7 +140,7 @@ impl MpeNoteAllocator {
     #[tactic(auto, unfolding(crate::specs::Allocator::without_note))]
     pub fn note_off(self, channel: u8) -> MpeNoteAllocator
         ensures is { result ≡ without_note self (packet_value channel) }
-        ensures listed { CallGives self (note_off channel) nothing result }
+        ensures listed { AllocatorGives self (note_off channel) nothing result }
     {
         let c = (channel % 16) as usize;
         if self.active[c] == 0 {
@@ -157,7 +157,7 @@ impl MpeNoteAllocator {
     // The count of held notes on `channel`.
     pub fn active_notes(self, channel: u8) -> u8
         ensures is { result ≡ held_on self (packet_value channel) }
-        ensures listed { CallGives self (active_notes channel) (count result) self }
+        ensures listed { AllocatorGives self (active_notes channel) (count result) self }
     {
         let c = (channel % 16) as usize;
         self.active[c]
@@ -166,7 +166,7 @@ impl MpeNoteAllocator {
     // The same-note option of A.3.
     pub fn same_note(self) -> bool
         ensures is { result ≡ self.same_note }
-        ensures listed { CallGives self same_note (option result) self }
+        ensures listed { AllocatorGives self same_note (option result) self }
     {
         self.same_note
     }
@@ -174,7 +174,7 @@ impl MpeNoteAllocator {
     // The same-note option on or off.
     pub fn set_same_note(self, on: bool) -> MpeNoteAllocator
         ensures is { result ≡ with_option self on }
-        ensures listed { CallGives self (set_same_note on) nothing result }
+        ensures listed { AllocatorGives self (set_same_note on) nothing result }
     {
         let mut a = self;
         a.same_note = on;
@@ -184,7 +184,7 @@ impl MpeNoteAllocator {
     // No held note and no release; the same-note option stays.
     pub fn reset(self) -> MpeNoteAllocator
         ensures is { result ≡ emptied self.same_note }
-        ensures listed { CallGives self reset nothing result }
+        ensures listed { AllocatorGives self reset nothing result }
         ensures fills { FillsFromManager result }
     {
         emptied(self.same_note)

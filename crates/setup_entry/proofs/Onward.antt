@@ -17,7 +17,7 @@ use Rattle.setup_file.proofs.Entries.{within-number}
 use Rattle.setup_file.proofs.Taken.{Taken, taken-read, read_taken}
 use Rattle.setup_entry.specs.declared.SetupError.{SetupError}
 use Rattle.setup_entry.specs.declared.SetupError.TheVariants as setup_error
-use Rattle.setup_entry.specs.Entry.{refused_by, entry_taken}
+use Rattle.setup_entry.specs.Entry.{refused_by, entry_answered}
 
 -- a refusal is nothing given
 pub refused-not : {A P : Type 0} (q : SetupError) (a : A) → refused_by q ≡ given a → P
@@ -39,7 +39,7 @@ refused-alike q (declined n v) x next e = refused-on q (λ a. out_of_range) ∙ 
 
 module _ (section : Section) (least : ℕ) (b : List ℕ) (s : Settings) where
   -- settings after an entry that was taken: it is whole and inside its limits, its number is that of a zone or a channel, and they have what it says
-  module _ (t : Settings) (e : given t ≡ entry_taken section least b s) where
+  module _ (t : Settings) (e : given t ≡ entry_answered section least b s) where
     both : (n : ℕ) × (entry_read section least b ≡ given n) × (given (settings_with section b s) ≡ given t)
     both = both-given (entry_read section least b) (λ n. given (settings_with section b s)) t (sym e)
 
@@ -71,7 +71,7 @@ module _ (section : Section) (least : ℕ) (b : List ℕ) (s : Settings) where
     entries-on left = rw (← settings-with, taken-read section least b entry-taken, add-one)
 
   -- one that is refused is the answer
-  pub entries-refused : (left : ℕ) (q : SetupError) → refused_by q ≡ entry_taken section least b s → refused_by q ≡ entries_read section (suc left) least s b
+  pub entries-refused : (left : ℕ) (q : SetupError) → refused_by q ≡ entry_answered section least b s → refused_by q ≡ entries_read section (suc left) least s b
   unfolding entries_read
   entries-refused left q e =
       refused-alike q (entry_read section least b) (λ n. settings_with section b s)

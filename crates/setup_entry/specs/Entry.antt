@@ -21,8 +21,8 @@ setup_read (Ok a) = given a
 setup_read (Err e) = refused_by e
 
 -- the settings with what an entry says that is taken, or why it is refused
-abbrev pub entry_taken : Section → ℕ → List ℕ → Settings → Outcome Settings
-entry_taken section least bytes s = and_then (entry_read section least bytes) (λ number. given (settings_with section bytes s))
+abbrev pub entry_answered : Section → ℕ → List ℕ → Settings → Outcome Settings
+entry_answered section least bytes s = and_then (entry_read section least bytes) (λ number. given (settings_with section bytes s))
 
 -- the first settings where something was read, and the second where it was refused
 abbrev pub settings_by : {A : Type 0} → Outcome A → Settings → Settings → Settings

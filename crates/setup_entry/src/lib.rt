@@ -4,7 +4,7 @@
 
 ghost use Rattle.std.specs.Prelude.{◌≡◌, true, ◌+◌, ◌*◌, ◌<◌, ◌≤◌, ◌^◌, length};
 ghost use Rattle.std.specs.Result.{result_unwrap_or};
-ghost use Rattle.setup_entry.specs.Entry.{setup_read, entry_taken, settings_taken, zone_entry_in, channel_entry_in};
+ghost use Rattle.setup_entry.specs.Entry.{setup_read, entry_answered, settings_taken, zone_entry_in, channel_entry_in};
 ghost use Rattle.setup_file.specs.Format.{entry_size, zone_entry_within, channel_entry_within, entry_within, unlisted, with_zone, with_channel, settings_with};
 
 use mpe_pitch::MpeSensitivity;
@@ -187,7 +187,7 @@ pub fn take_entry(
     least: u8,
     settings: Settings,
 ) -> Result<Settings, SetupError>
-    ensures reply { setup_read result ≡ entry_taken section least bytes.now settings }
+    ensures reply { setup_read result ≡ entry_answered section least bytes.now settings }
     ensures settings { result_unwrap_or result settings ≡ settings_taken section least bytes.now settings }
 {
     if bytes.len() < entry_size(section) {

@@ -13,7 +13,7 @@ use Rattle.setup_file.specs.Format.{number_in, settings_with}
 use Rattle.setup_file.specs.Read.{entry_read}
 use Rattle.setup_file.proofs.Taken.{taken-read, read_taken}
 use Rattle.setup_entry.specs.declared.SetupError.{SetupError}
-use Rattle.setup_entry.specs.Entry.{refused_by, entry_taken as taken_entry}
+use Rattle.setup_entry.specs.Entry.{refused_by, entry_answered}
 use Rattle.setup_entry.proofs.Onward.{entry-taken, settings-with, refused-alike}
 use Rattle.setup_text.specs.Parse.{SoFar, so_far, first_place, pair_tested, entry_taken, entry_from}
 use Rattle.setup_text_reader.specs.Progress.{entry_bytes}
@@ -21,7 +21,7 @@ use Rattle.setup_text_reader.proofs.Capped.{capped-read, capped-with}
 
 module _ (section : Section) (numbers : List ℕ) (so : SoFar) where
   -- an entry that is refused
-  pub numbers-refused : (q : SetupError) → refused_by q ≡ taken_entry section (so.least - first_place section) (entry_bytes section numbers) so.settings
+  pub numbers-refused : (q : SetupError) → refused_by q ≡ entry_answered section (so.least - first_place section) (entry_bytes section numbers) so.settings
       → refused_by q ≡ entry_taken section (entry_from section numbers) so
   unfolding entry_taken
   numbers-refused q e =
@@ -31,7 +31,7 @@ module _ (section : Section) (numbers : List ℕ) (so : SoFar) where
       (λ number. pair_tested (settings_with section (entry_from section numbers) so.settings) so.label (suc (first_place section + number))) e)
 
   -- or taken
-  module _ (s : Settings) (e : given s ≡ taken_entry section (so.least - first_place section) (entry_bytes section numbers) so.settings) where
+  module _ (s : Settings) (e : given s ≡ entry_answered section (so.least - first_place section) (entry_bytes section numbers) so.settings) where
     number_is : entry_read section (so.least - first_place section) (entry_from section numbers) ≡ given (number_in (entry_bytes section numbers))
     number_is =
         sym (capped-read section (so.least - first_place section) numbers)

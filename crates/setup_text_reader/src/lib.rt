@@ -7,7 +7,7 @@ ghost use Rattle.ump.specs.Choice.{when◌then◌else◌};
 ghost use Rattle.ump.specs.Outcome.{given};
 ghost use Rattle.settings.specs.Settings.{new_settings};
 ghost use Rattle.setup_file.specs.Read.{settings_in, settings_or_new, label_in};
-ghost use Rattle.setup_text.specs.Text.{line_fields, label_start};
+ghost use Rattle.setup_text.specs.Text.{line_fields};
 ghost use Rattle.setup_text.specs.Parse.{line_words, number_read, same_bytes, field_read, fields_read, entry_from, silent, no_item, entry_line_read, or_else, item_read, first_place, entry_taken, label_taken, line_taken, text_read, line_in};
 ghost use Rattle.setup_text.specs.Claims.{TextForm, FirstFault};
 ghost use Rattle.setup_text.specs.Examples.{TextsAsTabled};

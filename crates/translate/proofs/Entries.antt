@@ -14,10 +14,10 @@ use Rattle.ump.specs.Outcome.{given}
 use Rattle.ump.proofs.Cases.{by-test, of-both}
 use Rattle.translate_state.specs.declared.ChannelState.{ChannelState}
 use Rattle.translate_state.specs.declared.Midi1ToMidi2Group.{Midi1ToMidi2Group}
-use Rattle.translate_state.specs.State.{held, channel_state, empty_state, new_record, pending_in, null_after_in, pending_sent, selected, mcm_selected, entry_held, completed, controllers_reset, state_on, flags_allowed}
+use Rattle.translate_state.specs.State.{held, channel_state, empty_state, new_record, pending_in, null_after_in, pending_sent, number_selected, mcm_selected, entry_held, completed, controllers_reset, state_on, flags_allowed}
 use Rattle.std.specs.Prelude.{Option, Some, None}
 use Rattle.translate.specs.declared.Stepped.{Stepped}
-use Rattle.translate.specs.Translate.{word_pair, words_in, first_word, controller_data, controller_numbered, controller, pending_words, channel_step, entered_after, lsb_entered, passed_on, control_changed, message_translated, record_after, flushed_record}
+use Rattle.translate.specs.Translate.{word_pair, words_given, first_word, controller_data, controller_numbered, controller, pending_words, channel_step, entered_after, lsb_entered, passed_on, control_changed, message_translated, record_after, flushed_record}
 use Rattle.translate.specs.Lists.{translate_words, flush, translator_after_all, words_from, control, Formed}
 use Rattle.translate.specs.Rules.{record_after_all, control_words, registered_words, assignable_words, NullNumber, McmNumber, EntryRules, McmRules, NullRules}
 use Rattle.translate_state.proofs.Flags.{flags-lt}
@@ -213,7 +213,7 @@ module _ (rm rl nm nl bm bl : ℕ) where
 
 -- 98 to 101
 number : (g c : ℕ) (s : ChannelState) (n v : ℕ) → 98 ≤ n → n ≤ 101
-    → control_changed g c s n v ≡ channel_step (selected (pending_sent s) n v) (pending_words g c s)
+    → control_changed g c s n v ≡ channel_step (number_selected (pending_sent s) n v) (pending_words g c s)
 unfolding control_changed
 number g c s n v l h =
     rw (
@@ -228,7 +228,7 @@ number g c s n v l h =
 
 -- with nothing pending
 module _ (g c rm rl nm nl d bm bl v : ℕ) (k : Kind) where
-  half-after : (n : ℕ) → 98 ≤ n → n ≤ 101 → (t : ChannelState) → selected (on rm rl nm nl d bm bl (code k)) n v ≡ t
+  half-after : (n : ℕ) → 98 ≤ n → n ≤ 101 → (t : ChannelState) → number_selected (on rm rl nm nl d bm bl (code k)) n v ≡ t
       → control_changed g c (on rm rl nm nl d bm bl (code k)) n v ≡ channel_step t None
   half-after n l u t e =
       number g c _ n v l u ∙ rw (none-sent rm rl nm nl bm bl k d, none-pending rm rl nm nl bm bl g c k d, e)
@@ -251,7 +251,7 @@ module _ (g c : ℕ) (hg : g < 16) (hc : c < 16) (k : Kind) (rm rl nm nl bm bl :
   where
     silent-38 : (z w : ℕ) → w < 128 → Gives c (on rm rl nm nl (z + 1) bm bl (code-pending k)) (control g c 38 w ∷ []) [] (on rm rl nm nl (z + 1) bm bl (code k))
     silent-38 z w h =
-        said-last g c hg hc 38 w (omega arith) h _ [] (first-38 rm rl nm nl bm bl g c k z w) (ap words_in (Gives-none (z * 2 ^ 7 + w))) (ended c _)
+        said-last g c hg hc 38 w (omega arith) h _ [] (first-38 rm rl nm nl bm bl g c k z w) (ap words_given (Gives-none (z * 2 ^ 7 + w))) (ended c _)
 
     silent-entry : (d z w : ℕ) → z < 128 → w < 128
         → Gives c (on rm rl nm nl d bm bl (code k)) (control g c 6 z ∷ control g c 38 w ∷ []) [] (on rm rl nm nl (z + 1) bm bl (code k))
@@ -288,7 +288,7 @@ module _ (g c x y : ℕ) (hg : g < 16) (hc : c < 16) (hx : x < 128) (hy : y < 12
         from-new (silent g c hg hc n v hn hv e (silent-entry g c hg hc k rm rl nm nl 0 0 no-mcm Gives-none 0 x y hx hy))
 
     halves : Each (λ n. FromHalf (98 + n)) 4
-    unfolding control_changed selected pending_sent pending_words controller_numbered
+    unfolding control_changed number_selected pending_sent pending_words controller_numbered
     halves =
         nothing
         and half_of 98 (omega arith) nrpn 0 0 0 (v + 1) (rw (mod-eq_of_lt hv)) refl (λ u. refl)
@@ -306,7 +306,7 @@ module _ (g c : ℕ) (hg : g < 16) (hc : c < 16) (k : Kind) (a1 a2 a3 a4 rm rl n
     (select : (d bm bl : ℕ) → control_changed g c (on a1 a2 a3 a4 d bm bl (code k)) n2 v2 ≡ channel_step (on rm rl nm nl 0 bm bl (code k)) None)
     (no-mcm : mcm_of rm rl nm nl k ≡ false)
     (entry : ℕ → ℕ → List ℕ)
-    (read : (h v : ℕ) → words_in (sent rm rl nm nl k h c v) ≡ entry h v)
+    (read : (h v : ℕ) → words_given (sent rm rl nm nl k h c v) ≡ entry h v)
   where
     abbrev waiting : ℕ → ℕ → ℕ → ℕ → ChannelState
     waiting x bm bl f = on rm rl nm nl (x + 1) bm bl f
@@ -317,11 +317,11 @@ module _ (g c : ℕ) (hg : g < 16) (hc : c < 16) (k : Kind) (a1 a2 a3 a4 rm rl n
         silent g c hg hc n2 v2 hn hv (select 0 bm bl)
         (silent g c hg hc 6 x (omega arith) h (first-6 rm rl nm nl bm bl g c k 0 x h no-mcm) rest)
 
-    read-pending : (bm bl h x : ℕ) → words_in (pending_words h c (waiting x bm bl (code-pending k))) ≡ entry h (x * 2 ^ 7)
-    read-pending bm bl h x = ap words_in (pending-words rm rl nm nl bm bl h c k x) ∙ read h (x * 2 ^ 7)
+    read-pending : (bm bl h x : ℕ) → words_given (pending_words h c (waiting x bm bl (code-pending k))) ≡ entry h (x * 2 ^ 7)
+    read-pending bm bl h x = ap words_given (pending-words rm rl nm nl bm bl h c k x) ∙ read h (x * 2 ^ 7)
 
-    read-reset : (bm bl h x : ℕ) → words_in (pending_words h c (waiting x bm bl (code-reset k))) ≡ entry h (x * 2 ^ 7)
-    read-reset bm bl h x = ap words_in (reset-words rm rl nm nl bm bl h c k x) ∙ read h (x * 2 ^ 7)
+    read-reset : (bm bl h x : ℕ) → words_given (pending_words h c (waiting x bm bl (code-reset k))) ≡ entry h (x * 2 ^ 7)
+    read-reset bm bl h x = ap words_given (reset-words rm rl nm nl bm bl h c k x) ∙ read h (x * 2 ^ 7)
 
     -- 38 after 6
     complete : (bm bl x y : ℕ) → y < 128 → Gives c (waiting x bm bl (code-pending k)) (control g c 38 y ∷ []) (entry g (x * 2 ^ 7 + y)) (waiting x bm bl (code k))
@@ -447,23 +447,23 @@ module _ (g c : ℕ) (hg : g < 16) (hc : c < 16) (k : Kind) (a1 a2 a3 a4 rm rl n
 -- the first half of a number, from any state
 module _ (p : ChannelState) (e : p.flags / 4 ≡ 0) where
   selected-101 : (v : ℕ) → v < 128
-      → selected p 101 v ≡ on (v + 1) p.rpn_lsb p.nrpn_msb p.nrpn_lsb 0 p.bank_msb p.bank_lsb 1
-  unfolding selected
+      → number_selected p 101 v ≡ on (v + 1) p.rpn_lsb p.nrpn_msb p.nrpn_lsb 0 p.bank_msb p.bank_lsb 1
+  unfolding number_selected
   selected-101 v h = rw (mod-eq_of_lt h, e)
 
   selected-100 : (v : ℕ) → v < 128
-      → selected p 100 v ≡ on p.rpn_msb (v + 1) p.nrpn_msb p.nrpn_lsb 0 p.bank_msb p.bank_lsb 1
-  unfolding selected
+      → number_selected p 100 v ≡ on p.rpn_msb (v + 1) p.nrpn_msb p.nrpn_lsb 0 p.bank_msb p.bank_lsb 1
+  unfolding number_selected
   selected-100 v h = rw (mod-eq_of_lt h, e)
 
   selected-99 : (v : ℕ) → v < 128
-      → selected p 99 v ≡ on p.rpn_msb p.rpn_lsb (v + 1) p.nrpn_lsb 0 p.bank_msb p.bank_lsb 2
-  unfolding selected
+      → number_selected p 99 v ≡ on p.rpn_msb p.rpn_lsb (v + 1) p.nrpn_lsb 0 p.bank_msb p.bank_lsb 2
+  unfolding number_selected
   selected-99 v h = rw (mod-eq_of_lt h, e)
 
   selected-98 : (v : ℕ) → v < 128
-      → selected p 98 v ≡ on p.rpn_msb p.rpn_lsb p.nrpn_msb (v + 1) 0 p.bank_msb p.bank_lsb 2
-  unfolding selected
+      → number_selected p 98 v ≡ on p.rpn_msb p.rpn_lsb p.nrpn_msb (v + 1) 0 p.bank_msb p.bank_lsb 2
+  unfolding number_selected
   selected-98 v h = rw (mod-eq_of_lt h, e)
 
 -- a half with nothing pending, whichever kind was selected
@@ -585,7 +585,7 @@ module _ (r : Midi1ToMidi2Group) (f : Formed r) (g c : ℕ) (hg : g < 16) (hc : 
   alone : before.flags / 4 ≡ 0
   alone = sent-kind (state_on r c) (on-allowed r f c hc)
 
-  half : (n v : ℕ) → 98 ≤ n → n ≤ 101 → v < 128 → state_on (record_after r (control g c n v)) c ≡ selected before n v
+  half : (n v : ℕ) → 98 ≤ n → n ≤ 101 → v < 128 → state_on (record_after r (control g c n v)) c ≡ number_selected before n v
   unfolding message_translated
   half n v l h hv =
       state-of r f g 0xB c n v (fits-B g c n v hg hc (omega arith) hv) ∙ ap (λ q. q.state) (number g c (state_on r c) n v l h)
@@ -647,7 +647,7 @@ module _ (r : Midi1ToMidi2Group) (f : Formed r) (g c : ℕ) (hg : g < 16) (hc : 
   unfolding control_changed pending_words pending_sent entry_held entered_after mcm_selected controller
   mcm-6 d x h = rw (mod-eq_of_lt h, some x, back x, add-zero)
 
-  mcm-read : (v : ℕ) → words_in (controller_numbered g c 0x2 1 7 v) ≡ registered_words c 0 6 g v
+  mcm-read : (v : ℕ) → words_given (controller_numbered g c 0x2 1 7 v) ≡ registered_words c 0 6 g v
   unfolding controller_numbered
   mcm-read v = refl
 
@@ -718,8 +718,8 @@ module _ (r : Midi1ToMidi2Group) (f : Formed r) (g c : ℕ) (hg : g < 16) (hc : 
   -- half a number where both are null
   null-rules : SentNull (state_on r c) → NullRules r g c
   null-rules z =
-      let joined : (n u : ℕ) → 98 ≤ n → n ≤ 101 → u < 128 → (t : ChannelState) → selected (nulled z.msb z.bank-m z.bank-l (code z.kind)) n u ≡ t → state_on (record_after r (control g c n u)) c ≡ t =
-      λ n u l h hu t e. half n u l h hu ∙ ap (λ s. selected s n u) z.is ∙ e in
+      let joined : (n u : ℕ) → 98 ≤ n → n ≤ 101 → u < 128 → (t : ChannelState) → number_selected (nulled z.msb z.bank-m z.bank-l (code z.kind)) n u ≡ t → state_on (record_after r (control g c n u)) c ≡ t =
+      λ n u l h hu t e. half n u l h hu ∙ ap (λ s. number_selected s n u) z.is ∙ e in
       record {
         then_101 =
             λ m x y hm hx hy o.

@@ -13,7 +13,7 @@ use Rattle.translate_state.specs.declared.ChannelState.{ChannelState}
 use Rattle.translate_state.specs.declared.Midi1ToMidi2Group.{Midi1ToMidi2Group}
 use Rattle.translate_state.specs.State.{state_on, pending_sent}
 use Rattle.std.specs.Prelude.{Option, None}
-use Rattle.translate.specs.Translate.{words_in, pending_words, channel_step, control_changed, message_translated, with_state, word_step, translation_of, record_after, flush_reply, flushed_record}
+use Rattle.translate.specs.Translate.{words_given, pending_words, channel_step, control_changed, message_translated, with_state, word_step, translation_of, record_after, flush_reply, flushed_record}
 use Rattle.translate.specs.Lists.{translate_words, words_answered, words_from, translator_after_all, control, Formed}
 use Rattle.translate.specs.Rules.{record_after_all}
 use Rattle.translate.proofs.Refused.{answer-accepted, record-accepted}
@@ -64,8 +64,8 @@ module _ (r : Midi1ToMidi2Group) (f : Formed r) (g o c a b : ℕ) (m : Fits g o 
       λ i.
       message_translated (group-of-word g o c a b p i) (channel-of-word g o c a b p i) (state_on r (channel-of-word g o c a b p i)) (opcode-of-word g o c a b p i) (first-of-word g o c a b p i) (second-of-word g o c a b p i)
 
-  pub answer-of : translation_of r (word_of g o c a b) ≡ given (words_in (message_translated g c (state_on r c) o a b).reply)
-  answer-of = answer-accepted r (word_of g o c a b) f.allowed m.form ∙ (λ i. given (words_in (by_parts i).reply))
+  pub answer-of : translation_of r (word_of g o c a b) ≡ given (words_given (message_translated g c (state_on r c) o a b).reply)
+  answer-of = answer-accepted r (word_of g o c a b) f.allowed m.form ∙ (λ i. given (words_given (by_parts i).reply))
 
   pub record_of : record_after r (word_of g o c a b) ≡ with_state r c (message_translated g c (state_on r c) o a b).state
   record_of =
@@ -77,7 +77,7 @@ module _ (r : Midi1ToMidi2Group) (f : Formed r) (g o c a b : ℕ) (m : Fits g o 
 
 -- what `flush` answers, and the state that it leaves
 module _ (r : Midi1ToMidi2Group) (f : Formed r) (h c : ℕ) (hh : h < 16) (hc : c < 16) where
-  pub flush-answer : flush_reply r h c ≡ given (words_in (pending_words h c (state_on r c)))
+  pub flush-answer : flush_reply r h c ≡ given (words_given (pending_words h c (state_on r c)))
   flush-answer = rw (f.allowed, mod-eq_of_lt hh, mod-eq_of_lt hc)
 
   pub flush-state : state_on (flushed_record r h c) c ≡ pending_sent (state_on r c)
@@ -94,7 +94,7 @@ ended c s = record { gives = λ r f e. refl; leaves = λ r f e. e }
 
 module _ {s t u : ChannelState} {ws : List ℕ} (g c : ℕ) where
   -- a message, and then the rest
-  pub message : {out : List ℕ} (o a b : ℕ) → Fits g o c a b → (x : Option (List ℕ)) (words : List ℕ) → message_translated g c s o a b ≡ channel_step t x → words_in x ≡ words
+  pub message : {out : List ℕ} (o a b : ℕ) → Fits g o c a b → (x : Option (List ℕ)) (words : List ℕ) → message_translated g c s o a b ≡ channel_step t x → words_given x ≡ words
       → Gives c t ws out u → Gives c s (word_of g o c a b ∷ ws) (words ++ out) u
   unfolding words_from translator_after_all
   message o a b m x words e i k =
@@ -102,7 +102,7 @@ module _ {s t u : ChannelState} {ws : List ℕ} (g c : ℕ) where
       let left : (r : Midi1ToMidi2Group) → Formed r → state_on r c ≡ s → state_on (record_after r w) c ≡ t =
       λ r f j. state-of r f g o c a b m ∙ ap (λ q. (message_translated g c q o a b).state) j ∙ ap (λ q. q.state) e in
       let answer : (r : Midi1ToMidi2Group) → Formed r → state_on r c ≡ s → translation_of r w ≡ given words =
-      λ r f j. answer-of r f g o c a b m ∙ ap (λ q. given (words_in (message_translated g c q o a b).reply)) j ∙ ap (λ q. given (words_in q.reply)) e ∙ ap given i in
+      λ r f j. answer-of r f g o c a b m ∙ ap (λ q. given (words_given (message_translated g c q o a b).reply)) j ∙ ap (λ q. given (words_given q.reply)) e ∙ ap given i in
       record {
         gives =
             λ r f j. λ n.
@@ -112,7 +112,7 @@ module _ {s t u : ChannelState} {ws : List ℕ} (g c : ℕ) where
 
   module _ (hg : g < 16) (hc : c < 16) (n v : ℕ) (hn : n < 128) (hv : v < 128) where
     -- a control change that gives words, and one that gives none
-    pub said : {out : List ℕ} (x : Option (List ℕ)) (words : List ℕ) → control_changed g c s n v ≡ channel_step t x → words_in x ≡ words → Gives c t ws out u
+    pub said : {out : List ℕ} (x : Option (List ℕ)) (words : List ℕ) → control_changed g c s n v ≡ channel_step t x → words_given x ≡ words → Gives c t ws out u
         → Gives c s (control g c n v ∷ ws) (words ++ out) u
     unfolding message_translated
     said x words e i k = message 0xB n v (fits-B g c n v hg hc hn hv) x words e i k
@@ -121,7 +121,7 @@ module _ {s t u : ChannelState} {ws : List ℕ} (g c : ℕ) where
     silent e k = said None [] e refl k
 
     -- one that gives words, with nothing after it
-    pub said-last : (x : Option (List ℕ)) (words : List ℕ) → control_changed g c s n v ≡ channel_step t x → words_in x ≡ words → Gives c t ws [] u
+    pub said-last : (x : Option (List ℕ)) (words : List ℕ) → control_changed g c s n v ≡ channel_step t x → words_given x ≡ words → Gives c t ws [] u
         → Gives c s (control g c n v ∷ ws) words u
     said-last x words e i k =
         let all : Gives c s (control g c n v ∷ ws) (words ++ []) u = said x words e i k in

@@ -19,7 +19,7 @@ use Rattle.translate_state.specs.State.{held, kind_in, pending_in, null_after_in
 use Rattle.std.specs.Prelude.{List, Option, Some, None}
 use Rattle.ump.specs.Outcome.{given}
 use Rattle.translate.specs.declared.Stepped.{Stepped}
-use Rattle.translate.specs.Translate.{word_pair, words_in, first_word, controller_numbered, controller, pending_words, channel_step, entered_after, lsb_entered, passed_on, control_changed, program_words, message_translated, with_state, record_after, flushed_record}
+use Rattle.translate.specs.Translate.{word_pair, words_given, first_word, controller_numbered, controller, pending_words, channel_step, entered_after, lsb_entered, passed_on, control_changed, program_words, message_translated, with_state, record_after, flushed_record}
 use Rattle.translate.specs.Lists.{translate_words, Formed}
 use Rattle.translate.specs.Rules.{program_change, PassesAs, held_controller, control_words, PassingRules, BankRules}
 use Rattle.translate.proofs.Always.{on-other, after-formed}
@@ -59,7 +59,7 @@ module _ (r : Midi1ToMidi2Group) (f : Formed r) where
   module _ (g c : ℕ) (hg : g < 16) (hc : c < 16) where
     passes : (o a b : ℕ) → Fits g o c a b → (x y : ℕ) → message_translated g c (state_on r c) o a b ≡ channel_step (state_on r c) (word_pair x y) → PassesAs r (word_of g o c a b) x y
     passes o a b m x y e = (
-      answer-of r f g o c a b m ∙ ap (λ q. given (words_in q.reply)) e,
+      answer-of r f g o c a b m ∙ ap (λ q. given (words_given q.reply)) e,
       record_of r f g o c a b m ∙ ap (λ q. with_state r c q.state) e ∙ same c,
     )
 
@@ -75,7 +75,7 @@ module _ (r : Midi1ToMidi2Group) (f : Formed r) where
           pitch_bend_message = λ l m hl hm. passes 0xE l m (fits-E g c l m hg hc hl hm) _ _ refl;
           controllers =
               λ n v hn hv not-held.
-              answer-of r f g 0xB c n v (fits-B g c n v hg hc hn hv) ∙ ap (λ q. given (words_in q.reply)) (passed g c (state_on r c) n v not-held);
+              answer-of r f g 0xB c n v (fits-B g c n v hg hc hn hv) ∙ ap (λ q. given (words_given q.reply)) (passed g c (state_on r c) n v not-held);
           controllers_hold_nothing =
               λ n v hn hv not-held other.
               record_of r f g 0xB c n v (fits-B g c n v hg hc hn hv)

@@ -13,7 +13,7 @@ use Rattle.ump.specs.Word.{word_form}
 use Rattle.ump.proofs.Cases.{by-test}
 use Rattle.translate_state.specs.declared.ChannelState.{ChannelState}
 use Rattle.translate_state.specs.declared.Midi1ToMidi2Group.{Midi1ToMidi2Group}
-use Rattle.translate_state.specs.State.{empty_state, new_record, state_on, flags_allowed, pending_sent, selected, mcm_selected, entry_held, controllers_reset}
+use Rattle.translate_state.specs.State.{empty_state, new_record, state_on, flags_allowed, pending_sent, number_selected, mcm_selected, entry_held, controllers_reset}
 use Rattle.translate.specs.Translate.{pending_words, entered_after, control_changed, message_translated, record_after}
 use Rattle.translate.specs.Lists.{translate_words, translator_after_all, byte_of, byte_allowed, control, controller_of, leading_to_flags, leading_to, all_messages, Formed}
 use Rattle.translate_state.proofs.Flags.{flags-lt}
@@ -85,7 +85,7 @@ module _ (c : ℕ) (h : c < 16) where
   FlagsLead x = flags_allowed x ≡ true → Leads 7 x (leading_to_flags c x)
 
   flags-lead : Each FlagsLead 16
-  unfolding leading_to_flags control_changed selected pending_sent pending_words entered_after mcm_selected entry_held controllers_reset
+  unfolding leading_to_flags control_changed number_selected pending_sent pending_words entered_after mcm_selected entry_held controllers_reset
   flags-lead =
       nothing
       and (λ a. by-none 7 refl)
@@ -121,7 +121,7 @@ module _ (c : ℕ) (h : c < 16) where
   ByteLead k = (x : ℕ) → byte_allowed k x ≡ true → Leads k x (leading_to c k x)
 
   bytes-lead : Each ByteLead 8
-  unfolding leading_to control_changed selected pending_sent pending_words entered_after mcm_selected entry_held
+  unfolding leading_to control_changed number_selected pending_sent pending_words entered_after mcm_selected entry_held
   bytes-lead =
       nothing
       and (λ x a. held-lead 0 (omega arith) refl (λ v. refl) x (leb-true x 128 a))

@@ -11,7 +11,7 @@ use Rattle.translate_state.specs.State.{state_on, state_allowed, record_allowed}
 use Rattle.translate_state.proofs.Allowed.{Allowed, parts-allowed, one-refused}
 use Rattle.ump.specs.Outcome.{given}
 use Rattle.ump.specs.Word.{channel_of, word_form}
-use Rattle.translate.specs.Translate.{words_in, with_state, word_step, translation_of, record_after}
+use Rattle.translate.specs.Translate.{words_given, with_state, word_step, translation_of, record_after}
 use Rattle.translate.specs.Lists.{byte_of, byte_allowed, OthersRefused}
 use Rattle.translate.proofs.Each.{Each, nothing, ◌and◌, at}
 
@@ -50,7 +50,7 @@ others-refused r =
 
 -- a record that is accepted is not: a message is answered, and leaves what its channel's state becomes
 pub answer-accepted : (r : Midi1ToMidi2Group) (w : ℕ) → record_allowed r ≡ true → word_form w ≡ true
-    → translation_of r w ≡ given (words_in (word_step r w).reply)
+    → translation_of r w ≡ given (words_given (word_step r w).reply)
 answer-accepted r w a m = rw (a, m)
 
 pub record-accepted : (r : Midi1ToMidi2Group) (w : ℕ) → record_allowed r ≡ true → word_form w ≡ true

@@ -12,16 +12,16 @@ use Rattle.ump.specs.declared.reply.OutOfRange.{OutOfRange}
 use Rattle.translate.specs.declared.Opcode.{Opcode}
 use Rattle.translate.specs.declared.Opcode.TheVariants.{RegisteredController, AssignableController, NoteOff, NoteOn, PolyPressure, ControlChange, ProgramChange, ChannelPressure, PitchBend}
 use Rattle.translate.specs.declared.Stepped.{Stepped}
-use Rattle.translate_state.specs.State.{held, value_in, kind_in, pending_in, null_after_in, state_on, record_allowed, pending_sent, selected, mcm_selected, entry_held, completed, controllers_reset, bank_msb_held, bank_lsb_held, bank_sent}
+use Rattle.translate_state.specs.State.{held, value_in, kind_in, pending_in, null_after_in, state_on, record_allowed, pending_sent, number_selected, mcm_selected, entry_held, completed, controllers_reset, bank_msb_held, bank_lsb_held, bank_sent}
 
 -- the words of a message, none where it has no words
-abbrev pub words_in : Option (List ℕ) → List ℕ
-words_in (Some words) = words
-words_in None = []
+abbrev pub words_given : Option (List ℕ) → List ℕ
+words_given (Some words) = words
+words_given None = []
 
 -- what a call answers, by the papers' numbers: two words, no words, or out of range
 abbrev pub translation_read : Result (Option (List ℕ)) OutOfRange → Outcome (List ℕ)
-translation_read (Ok words) = given (words_in words)
+translation_read (Ok words) = given (words_given words)
 translation_read (Err e) = out_of_range
 
 -- the number of an opcode (M2-104 7.4)
@@ -109,7 +109,7 @@ control_changed g c s n v =
     when eqb n 121 then channel_step (controllers_reset s) (passed_on g c 0xB n v) else
     when ltb n 98 then channel_step s (passed_on g c 0xB n v) else
     when ltb 101 n then channel_step s (passed_on g c 0xB n v) else
-    channel_step (selected (pending_sent s) n v) (pending_words g c s)
+    channel_step (number_selected (pending_sent s) n v) (pending_words g c s)
 
 -- a program change carries the held bank, with Bank Valid, and the bank is held no longer (D.3.4)
 abbrev pub bank_words : ℕ → ℕ → ChannelState → ℕ → Option (List ℕ)
@@ -150,7 +150,7 @@ word_step r w =
 -- what `translate_words` answers and leaves: out of range for a record or a word that is not allowed, and then the record stays
 abbrev pub translation_of : Midi1ToMidi2Group → ℕ → Outcome (List ℕ)
 translation_of r w =
-    when record_allowed r then (when word_form w then given (words_in (word_step r w).reply) else out_of_range) else out_of_range
+    when record_allowed r then (when word_form w then given (words_given (word_step r w).reply) else out_of_range) else out_of_range
 
 abbrev pub record_after : Midi1ToMidi2Group → ℕ → Midi1ToMidi2Group
 record_after r w =
@@ -159,7 +159,7 @@ record_after r w =
 -- what `flush` answers and leaves: the pending entry of a channel, group and channel taken modulo 16
 abbrev pub flush_reply : Midi1ToMidi2Group → ℕ → ℕ → Outcome (List ℕ)
 flush_reply r g c =
-    when record_allowed r then given (words_in (pending_words (packet_value g) (packet_value c) (state_on r (packet_value c)))) else out_of_range
+    when record_allowed r then given (words_given (pending_words (packet_value g) (packet_value c) (state_on r (packet_value c)))) else out_of_range
 
 abbrev pub flushed_record : Midi1ToMidi2Group → ℕ → ℕ → Midi1ToMidi2Group
 flushed_record r g c =

@@ -1,6 +1,6 @@
 // What a message does to the held values of its channel (translate.rs).
 ghost use Rattle.std.specs.Prelude.{◌≡◌, ◌<◌};
-ghost use Rattle.translate_state.specs.State.{held, bit_in, with_bit, without_bit, with_kind, with_entry, selection_nulled, pending_sent, number_held, kind_of_number, selected, mcm_selected, entry_held, completed, controllers_reset, bank_msb_held, bank_lsb_held, bank_sent};
+ghost use Rattle.translate_state.specs.State.{held, bit_in, with_bit, without_bit, with_kind, with_entry, selection_nulled, pending_sent, number_held, kind_of_number, number_selected, mcm_selected, entry_held, completed, controllers_reset, bank_msb_held, bank_lsb_held, bank_sent};
 
 use translate_state::ChannelState;
 
@@ -166,9 +166,9 @@ fn store_number(state: ChannelState, index: u8, value: u8) -> ChannelState
 }
 
 // A parameter number, controllers 98 to 101, is stored, selects its kind, and no Data Entry MSB is held. Any other controller is taken as 98.
-#[tactic(auto, unfolding(translate_state::specs::State::selected))]
+#[tactic(auto, unfolding(translate_state::specs::State::number_selected))]
 pub(crate) fn select(state: ChannelState, index: u8, value: u8) -> ChannelState
-    ensures { result ≡ selected state index value }
+    ensures { result ≡ number_selected state index value }
 {
     let s = store_number(state, index, value);
     with_entry(s, 0, with_kind(state.flags, kind_of_number(index)))

@@ -7,7 +7,7 @@ use native.Mathlib.Omega.{arith}
 use lib.Dec.{eqb}
 use Rattle.ump.proofs.Cases.{by-test, of-both}
 use Rattle.translate_state.specs.declared.ChannelState.{ChannelState}
-use Rattle.translate_state.specs.State.{held, pending_in, null_after_in, with_kind, with_pending, without_pending, with_null_after, without_null_after, with_held_rpn, with_held_nrpn, with_bank, with_entry, selection_nulled, flags_allowed, pending_sent, number_held, kind_of_number, selected, entry_held, completed, controllers_reset, bank_msb_held, bank_lsb_held, bank_sent}
+use Rattle.translate_state.specs.State.{held, pending_in, null_after_in, with_kind, with_pending, without_pending, with_null_after, without_null_after, with_held_rpn, with_held_nrpn, with_bank, with_entry, selection_nulled, flags_allowed, pending_sent, number_held, kind_of_number, number_selected, entry_held, completed, controllers_reset, bank_msb_held, bank_lsb_held, bank_sent}
 use Rattle.translate_state.proofs.Allowed.{Allowed}
 use Rattle.translate_state.proofs.Flags.{sent_flags, kind-alone, kind_1, kind_2, now-pending, no-longer-pending, sent-then-null, reset-pending, reset-at-once}
 
@@ -113,8 +113,8 @@ module _ (s : ChannelState) (a : Allowed s) where
       (nrpn-kept s.nrpn_msb (held v) a.nrpn-msb (held-le v))))
 
 module _ (s : ChannelState) (a : Allowed s) where
-  pub selected-kept : (n v : ℕ) → Allowed (selected s n v)
-  unfolding selected
+  pub selected-kept : (n v : ℕ) → Allowed (number_selected s n v)
+  unfolding number_selected
   selected-kept n v =
       entry_kept (number_held s n v) (number-kept s a n v) 0 (with_kind s.flags (kind_of_number n)) (omega arith)
       (of-both (λ k. flags_allowed (with_kind s.flags k) ≡ true) (eqb n 101) (kind_1 s.flags a.flags_of)

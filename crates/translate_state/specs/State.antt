@@ -110,8 +110,8 @@ abbrev pub kind_of_number : ℕ → ℕ
 kind_of_number n = when eqb n 101 then 1 else when eqb n 100 then 1 else 2
 
 -- 98 to 101: the number is stored, its kind selected, and no Data Entry MSB is held (D.3.3)
-unfoldable pub selected : ChannelState → ℕ → ℕ → ChannelState
-selected s n v = with_entry (number_held s n v) 0 (with_kind s.flags (kind_of_number n))
+unfoldable pub number_selected : ChannelState → ℕ → ℕ → ChannelState
+number_selected s n v = with_entry (number_held s n v) 0 (with_kind s.flags (kind_of_number n))
 
 -- the MPE Configuration Message, RPN 0/6, is selected (M1-100 2.2.1)
 unfoldable pub mcm_selected : ChannelState → Bool
