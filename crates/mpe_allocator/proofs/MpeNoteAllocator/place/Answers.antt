@@ -32,6 +32,6 @@ returns c =
       channel = i.best;
       foremost = let full : a.end ≡ i.c = omega arith in
           rw full (found a.self a.zone a.mark a.first i.c i.best i.least (omega arith) i.invariant);
-      is = let more : c.saturating_add.result ≡ one_more (held_on a.self i.best) = omega (arith, c.saturating_add.ensures) in
+      is = let more : one_more (held_on a.self i.best) ≡ c.saturating_add.result = omega (arith, c.saturating_add.ensures) in
           rw more refl;
     }
