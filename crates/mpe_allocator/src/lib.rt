@@ -6,7 +6,7 @@ ghost use Rattle.ump.specs.Packet.{packet_value};
 ghost use Rattle.ump.specs.Choice.{when◌then◌else◌};
 ghost use Rattle.mpe_layout.specs.Layout.{member_found};
 ghost use Rattle.mpe_allocator.specs.Choice.{held_on, tie_first, smaller_first, recalls};
-ghost use Rattle.mpe_allocator.specs.Allocator.{emptied, Placed, AllocatedAs, allocation_of, without_note, with_option};
+ghost use Rattle.mpe_allocator.specs.Allocator.{emptied, one_more, Placed, AllocatedAs, allocation_of, without_note, with_option};
 ghost use Rattle.mpe_allocator.specs.Calls.{note_on, note_off, active_notes, same_note, set_same_note, reset, note_reply, count, option, nothing, AllocatorGives, CountsSum};
 ghost use Rattle.mpe_allocator.specs.Examples.{AllocatesAsTabled};
 ghost use Rattle.mpe_allocator.specs.Stored.{AlwaysStored};
@@ -51,6 +51,13 @@ fn smaller_first(x: u64, y: u64, rest: bool) -> bool
     ensures { result ≡ smaller_first x y rest }
 {
     x < y || x == y && rest
+}
+
+// One more, and no more than 255.
+fn one_more(held: u8) -> u8
+    ensures { result ≡ one_more held }
+{
+    held.saturating_add(1)
 }
 
 // A free channel whose last note is this one, under the same-note option.
@@ -104,7 +111,7 @@ impl MpeNoteAllocator {
             }
         }
         let mut a = self;
-        a.active[best] = self.active[best].saturating_add(1);
+        a.active[best] = one_more(self.active[best]);
         a.last_note[best] = mark;
         Allocation {
             allocator: a,

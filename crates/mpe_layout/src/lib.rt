@@ -104,18 +104,22 @@ fn place_listed(members: u8, distance: u8) -> ZonePlace
     sheet()[members as usize][distance as usize]
 }
 
-// The same place by comparisons.
+// The same place by comparisons. It returns where it knows: of one expression the compiler makes selects, and an offset that is read in no zone takes half as
+// much time again (docs/BENCHMARKS.md).
 #[tactic(auto, unfolding(crate::specs::Layout::place_of))]
 fn place_compared(members: u8, distance: u8) -> ZonePlace
     ensures { result ≡ place_of members distance }
 {
-    if members == 0 || members < distance {
-        ZonePlace::Outside
-    } else if distance == 0 {
-        ZonePlace::AsManager
-    } else {
-        ZonePlace::AsMember
+    if members == 0 {
+        return ZonePlace::Outside;
     }
+    if distance == 0 {
+        return ZonePlace::AsManager;
+    }
+    if distance <= members {
+        return ZonePlace::AsMember;
+    }
+    ZonePlace::Outside
 }
 
 // The role by the places in Lower and in Upper.

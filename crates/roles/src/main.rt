@@ -36,22 +36,26 @@ fn counts_asked(rt: &impl Env) -> Option<(u8, u8)> {
     Some((argument(rt, 1)?, argument(rt, 2)?))
 }
 
-fn role_text(role: MpeRole) -> &'static str {
-    match role {
-        MpeRole::NoZone => "-",
-        MpeRole::Manager(MpeZone::Lower) => "Lower manager",
-        MpeRole::Manager(MpeZone::Upper) => "Upper manager",
-        MpeRole::Member(MpeZone::Lower) => "Lower member",
-        MpeRole::Member(MpeZone::Upper) => "Upper member",
+fn zone_text(zone: MpeZone) -> &'static str {
+    match zone {
+        MpeZone::Lower => "Lower",
+        MpeZone::Upper => "Upper",
     }
+}
+
+// The end of a line: `-`, or the zone and then the part, each a write of its own.
+fn print_role(rt: &impl Print, role: MpeRole) -> bool {
+    let (zone, part) = match role {
+        MpeRole::NoZone => return println!(rt; "-").is_ok(),
+        MpeRole::Manager(zone) => (zone_text(zone), "manager"),
+        MpeRole::Member(zone) => (zone_text(zone), "member"),
+    };
+    print!(rt; "{zone} ").is_ok() && println!(rt; "{part}").is_ok()
 }
 
 // The line of a channel; false where it cannot be written. The layout is legal: it was made by `new`.
 fn print_channel(rt: &impl Print, layout: MpeLayout, channel: u8) -> bool {
-    layout.role(channel).is_ok_and(|role| {
-        let text = role_text(role);
-        println!(rt; "{channel} {text}").is_ok()
-    })
+    layout.role(channel).is_ok_and(|role| print!(rt; "{channel} ").is_ok() && print_role(rt, role))
 }
 
 // Prints the roles of the layout that is asked for, or says why there are none.

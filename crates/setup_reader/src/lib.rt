@@ -7,7 +7,7 @@ ghost use Rattle.settings.specs.Settings.{new_settings};
 ghost use Rattle.setup_file.specs.Read.{entries_read, section_read, zones_read, label_read, file_read, settings_in, settings_or_new, label_in};
 ghost use Rattle.setup_file.specs.Claims.{OnlyForm, SeenIsShown, Leftmost, CourseShown};
 ghost use Rattle.setup_file.specs.Examples.{FilesAsTabled};
-ghost use Rattle.setup_entry.specs.Entry.{setup_read};
+ghost use Rattle.setup_entry.specs.Entry.{setup_read, entry_answered};
 ghost use Rattle.setup_reader.specs.Progress.{progress_read};
 
 use settings::Settings;
@@ -21,6 +21,13 @@ struct Progress<'a> {
     rest: &'a [u8],
 }
 
+// The settings with what the entry at the front of what is left says, whose number has to be `least` or more.
+fn read_entry(section: Section, least: u8, from: Progress<'_>) -> Result<Settings, SetupError>
+    ensures reply { setup_read result ≡ entry_answered section least from.entry.rest.now from.entry.settings }
+{
+    take_entry(section, from.rest, least, from.settings)
+}
+
 // So many entries: the settings with what they say, and the bytes after them.
 // `k` has its name for the proof, whose invariant counts by it the entries that are left.
 fn read_entries(section: Section, count: u8, from: Progress<'_>) -> Result<Progress<'_>, SetupError>
@@ -30,7 +37,7 @@ fn read_entries(section: Section, count: u8, from: Progress<'_>) -> Result<Progr
     let mut rest = from.rest;
     let mut least: u8 = 0;
     for k in 0..count {
-        settings = take_entry(section, rest, least, settings)?;
+        settings = read_entry(section, least, Progress { settings, rest })?;
         least = rest[0] + 1;
         rest = &rest[entry_size(section)..];
     }

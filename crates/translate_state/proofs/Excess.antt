@@ -7,10 +7,10 @@ use native.Mathlib.Omega.{arith}
 use Rattle.std.specs.Int.Bits.{or_zero_l}
 use Rattle.std.proofs.lemmas.Nat.{le_or_l}
 use lib.Bits.{bit_and, bit_or, bit_xor, and_block, and_high}
-use lib.Dec.{leb, eqb}
-use borrow.Author.Tests.{leb-true, leb-false, eqb-true, eqb-false, ne_eqb}
-use Rattle.ump.proofs.Cases.{by-test}
-use Rattle.ump.proofs.Below.{at}
+use lib.Dec.{ltb, leb, eqb}
+use borrow.Author.Tests.{leb-true, leb-false, eqb-true, eqb-false, ne_eqb, ltb-true}
+use Rattle.ump.proofs.Cases.{by-test, both}
+use Rattle.ump.proofs.Below.{every_below, at}
 use Rattle.translate_state.specs.State.{held_allowed, flags_allowed}
 use Rattle.translate_state.proofs.Allowed.{and-false}
 
@@ -76,11 +76,14 @@ abbrev pub flags_over : ℕ → ℕ → ℕ
 flags_over mask f = bit_or (f / 16) (bit_and (bit_and (bit_xor f 4) (bit_xor f 4 / 2)) mask)
 
 abbrev pub flags_test : ℕ → ℕ → Bool
-flags_test mask f = alike (eqb (flags_over mask f) 0) (flags_allowed f)
+flags_test mask f = alike (eqb (flags_over mask f) 0) (flags_allowed f) && ltb (flags_over mask f) 32
 
--- the number is 0 for the flags that are allowed, and for no other: one test that antt computes over every byte
-pub flags_tested : (f : ℕ) → f < 256 → eqb (flags_over 5 f) 0 ≡ flags_allowed f
-flags_tested f h = alike_same _ _ (at (flags_test 5) 256 refl f h)
+-- with a mask for which the test passes at every byte, the number is 0 for the flags that are allowed, and for no other
+pub flags_tested : (mask : ℕ) → every_below (flags_test mask) 256 ≡ true → (f : ℕ) → f < 256
+    → (eqb (flags_over mask f) 0 ≡ flags_allowed f) × (flags_over mask f < 32)
+flags_tested mask t f h =
+    let b = both (alike (eqb (flags_over mask f) 0) (flags_allowed f)) (ltb (flags_over mask f) 32) (at (flags_test mask) 256 t f h) in
+    (alike_same _ _ b.0, ltb-true _ _ b.1)
 
 -- the bytes of a channel by turns, and its flags
 pub regrouped : (a b c d e f g h : Bool) → ((a && (c && (e && g))) && (b && (d && (f && true)))) && h ≡ a && (b && (c && (d && (e && (f && (g && h))))))

@@ -27,7 +27,6 @@ pub struct Midi1ToMidi2Group {
 }
 
 // 0 for flags that are allowed, which are below 16, have no kind 3, and bit 3 only beside bit 2.
-#[tactic(auto, using(crate::proofs::Excess::flags_tested))]
 fn flags_excess(flags: u8) -> u64
     ensures { eqb result 0 ≡ flags_allowed flags }
 {

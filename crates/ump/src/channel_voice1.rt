@@ -95,9 +95,9 @@ fn word_of(opcode: u8, group: Group, channel: Channel, a: u8, b: u8) -> u32
 {
     (b as u32)
         | ((a as u32) << 8)
-        | ((channel.index() as u32) << 16)
+        | ((channel.into_bits() as u32) << 16)
         | ((opcode as u32) << 20)
-        | ((group.index() as u32) << 24)
+        | ((group.into_bits() as u32) << 24)
         | 0x2000_0000
 }
 
