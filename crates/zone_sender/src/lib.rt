@@ -2,7 +2,7 @@
 #![tactic(auto)]
 
 ghost use Rattle.std.specs.Prelude.{◌≡◌, ◌++◌, ◌+◌, ◌*◌, ◌<◌, ◌≤◌, length, drop};
-ghost use Rattle.zone_sender.specs.Zone.{group_size, group_at, InRange, groups, zone_words, fill_reply, zone_reply, filled, written_read};
+ghost use Rattle.zone_sender.specs.Zone.{group_size, sensitivity_at_place, group_at, InRange, groups, zone_words, fill_reply, zone_reply, filled, written_read};
 ghost use Rattle.zone_sender.specs.Claims.{WrittenInOrder, AnsweredByNeed};
 ghost use Rattle.zone_sender.specs.declared.WriteError.TheVariants as write_error;
 
@@ -40,17 +40,30 @@ struct ZoneGroups {
 }
 
 impl ZoneGroups {
+    // The sensitivity of the k-th channel.
+    #[tactic(auto, unfolding(crate::specs::Zone::sensitivity_at_place))]
+    fn sensitivity_at_place(self, k: u8) -> MpeSensitivity
+        ensures { result ≡ sensitivity_at_place self.at_manager self.at_member k }
+    {
+        if k == 0 {
+            self.at_manager
+        } else {
+            self.at_member
+        }
+    }
+
     // The sensitivity messages of the k-th channel: the manager, then the members rising.
     #[tactic(auto, unfolding(crate::specs::Zone::channel_at, crate::specs::Zone::sensitivity_at_place))]
     fn group(self, k: u8) -> [u32; GROUP_WORDS]
         requires { InRange self (k + 1) }
         ensures { result ≡ group_at self k }
     {
-        let (channel, sensitivity) = if k == 0 {
-            (self.manager, self.at_manager)
+        let channel = if k == 0 {
+            self.manager
         } else {
-            (self.lowest + (k - 1), self.at_member)
+            self.lowest + (k - 1)
         };
+        let sensitivity = self.sensitivity_at_place(k);
         sensitivity_messages(channel, sensitivity.semitones, sensitivity.cents).unwrap()
     }
 }

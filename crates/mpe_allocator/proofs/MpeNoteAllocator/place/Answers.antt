@@ -1,7 +1,7 @@
 -- `mpe_allocator::MpeNoteAllocator::place` meets its contract. The loop's invariant: the best so far is the foremost of the channels passed, and `least` is its rank.
 use Rattle.std.proofs.Common.{◌≡◌, true, false, sym, ◌∙◌, refl, arith}
 use Rattle.mpe_allocator.specs.Choice.{held_on, tie_first, smaller_first}
-use Rattle.mpe_allocator.specs.Allocator.{with_note}
+use Rattle.mpe_allocator.specs.Allocator.{one_more, with_note}
 use Rattle.mpe_allocator.proofs.Ranks.{rank_on, passed, found}
 use Rattle.mpe_allocator.proofs.MpeNoteAllocator.place.Goals as goal
 use Rattle.mpe_allocator.proofs.MpeNoteAllocator.place.Goals.{then-smaller_first, else-smaller_first}
@@ -32,5 +32,6 @@ returns c =
       channel = i.best;
       foremost = let full : a.end ≡ i.c = omega arith in
           rw full (found a.self a.zone a.mark a.first i.c i.best i.least (omega arith) i.invariant);
-      is = rw c.one_more.ensures refl;
+      is = let more : one_more (held_on a.self i.best) ≡ c.one_more.result = sym c.one_more.ensures in
+          rw more refl;
     }

@@ -18,13 +18,13 @@ pub overflow_add-result : goal.overflow_add-result
 overflow_add-result c =
     let m = managers-bounded _ c.args.self c.args.zone c.manager_pair-manager.ensures in
     let o = bounded _ _ _ c.pitch_offset_with_remainder-own.ensures.is in
-    offsets-fit m o
+    search (offsets-fit, remainders-fit, m, o)
 
 pub overflow_add-result-2 : goal.overflow_add-result-2
 overflow_add-result-2 c =
     let m = managers-bounded _ c.args.self c.args.zone c.manager_pair-manager.ensures in
     let o = bounded _ _ _ c.pitch_offset_with_remainder-own.ensures.is in
-    remainders-fit m o
+    search (offsets-fit, remainders-fit, m, o)
 
 pub returns : goal.returns
 unfolding member_pair
